@@ -1,0 +1,50 @@
+-- The definitions on lists that the rules use: the first element that passes a test, all, some, no two, a change at every
+-- place, the least number that passes. A `let` is computed only where it is asked for: so a search stops where it succeeds.
+use Prim.Native.Nat.{ℕ, zero, suc}
+use mathlib.Core.Bool.{Bool, true, false, not, _&&_, _||_, cond}
+use mathlib.Core.List.{List, [], _∷_}
+use Rattle.lists.specs.Tests.{implies}
+
+module _ {A : Type 0} where
+  -- the first place whose element passes the test; the length where there is none
+  unfoldable pub firstIndex : (A → Bool) → List A → ℕ
+  firstIndex test [] = 0
+  firstIndex test (x ∷ xs) = let later = suc (firstIndex test xs) in cond (test x) 0 later
+
+  -- every element passes
+  unfoldable pub all : (A → Bool) → List A → Bool
+  all test [] = true
+  all test (x ∷ xs) = let rest = all test xs in test x && rest
+
+  -- some element passes
+  unfoldable pub some : (A → Bool) → List A → Bool
+  some test [] = false
+  some test (x ∷ xs) = let rest = some test xs in test x || rest
+
+  -- no two of the elements that count, in different places, are alike
+  unfoldable pub noTwo : (A → Bool) → (A → A → Bool) → List A → Bool
+  noTwo counts alike [] = true
+  noTwo counts alike (x ∷ xs) =
+      let alone = not (some (λ y. counts y && alike x y) xs) in
+      let rest = noTwo counts alike xs in
+      implies (counts x) alone && rest
+
+  -- every element passes; the test sees the place too, counted from i
+  unfoldable pub allAt : (ℕ → A → Bool) → ℕ → List A → Bool
+  allAt test i [] = true
+  allAt test i (x ∷ xs) = let rest = allAt test (suc i) xs in test i x && rest
+
+  -- some element passes; the test sees the place too, counted from i
+  unfoldable pub someAt : (ℕ → A → Bool) → ℕ → List A → Bool
+  someAt test i [] = false
+  someAt test i (x ∷ xs) = let rest = someAt test (suc i) xs in test i x || rest
+
+  -- every element changed; the change sees the place too, counted from i
+  unfoldable pub mapAt : (ℕ → A → A) → ℕ → List A → List A
+  mapAt change i [] = []
+  mapAt change i (x ∷ xs) = change i x ∷ mapAt change (suc i) xs
+
+-- the least number that passes, from `start` on; `start + steps` where none of the first `steps` numbers does
+unfoldable pub least : (ℕ → Bool) → ℕ → ℕ → ℕ
+least test zero start = start
+least test (suc steps) start = let later = least test steps (suc start) in cond (test start) start later

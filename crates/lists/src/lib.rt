@@ -1,0 +1,1 @@
+// No code: definitions on lists in specs/, their laws in proofs/.

@@ -1,0 +1,6 @@
+pub mod CaseLines
+pub mod WorkedCases
+pub mod Traps
+pub mod RefusalOrder
+pub mod EdgeCases
+pub mod CasesHold

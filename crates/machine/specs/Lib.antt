@@ -1,0 +1,13 @@
+pub mod State
+pub mod Refusal
+pub mod Operation
+pub mod Take
+pub mod Pass
+pub mod Recall
+pub mod GiveBack
+pub mod Dock
+pub mod Access
+pub mod Step
+pub mod Empty
+pub mod Sequence
+pub mod Isolation

@@ -1,0 +1,28 @@
+// The request, the answer, and what the step hands back beside the lent store and sheet buffer. No code: the machine is defined
+// in specs/.
+use tables::Tables;
+
+// Nine whole numbers, 0 to 65,535.
+pub struct Request {
+    pub pad: u16,
+    pub program: u16,
+    pub op: u16,
+    pub ticket: u16,
+    pub topad: u16,
+    pub toprogram: u16,
+    pub first: u16,
+    pub count: u16,
+    pub rights: u16,
+}
+
+// Result (0 or a refusal), the asker's new number, the recipient's new number; 0 where there is none.
+pub struct Answer {
+    pub result: u16,
+    pub ticket: u16,
+    pub recipient: u16,
+}
+
+pub struct Served {
+    pub answer: Answer,
+    pub tables: Tables,
+}

@@ -1,0 +1,2 @@
+pub mod Building
+pub mod OrderCases
