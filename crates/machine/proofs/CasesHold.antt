@@ -1,6 +1,5 @@
 -- Every case comes out as written, by the step itself, 13 and 14 included. The claims are computed: the checker runs the definitions on
 -- each line, and a wrong answer in a table or a wrong test in a definition is refused.
-use Prim.Native.Nat.{ℕ}
 use mathlib.Core.Path.{_≡_, refl}
 use mathlib.Core.Bool.{true}
 use lib.ListN.{replicate}

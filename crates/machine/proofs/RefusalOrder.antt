@@ -1,5 +1,5 @@
--- Which refusal comes first: for each neighbouring pair in document 01's lists a line to which both apply, and for each bound of a
--- field the first number past it.
+-- Which refusal comes first: for neighbours in document 01's lists of refusals a line to which both apply, where there can be one, and
+-- for each field the numbers past its range. 8 before 6 is M10, count 257 is M3; 13, 14 and the dock's list are in EdgeCases.
 use Prim.Native.Nat.{ℕ}
 use mathlib.Core.List.{List, [], _∷_}
 use Rattle.tables.specs.declared.Tables.{Tables}
@@ -32,8 +32,16 @@ fieldRanges =
     line 0 0 2 1 0 8 0 1 1 0 (gives 3 0 0 0) ∷
     line 0 0 2 1 3 7 255 256 7 0 (gives 4 0 0 0) ∷
     line 0 0 3 0 0 0 0 0 0 0 (gives 3 0 0 0) ∷
+    line 0 0 3 1 1 0 0 0 0 0 (gives 3 0 0 0) ∷
+    line 0 0 3 1 0 1 0 0 0 0 (gives 3 0 0 0) ∷
     line 0 0 3 1 0 0 1 0 0 0 (gives 3 0 0 0) ∷
+    line 0 0 4 1 1 0 0 0 0 0 (gives 3 0 0 0) ∷
+    line 0 0 4 1 0 1 0 0 0 0 (gives 3 0 0 0) ∷
+    line 0 0 4 1 0 0 1 0 0 0 (gives 3 0 0 0) ∷
     line 0 0 4 1 0 0 0 0 1 0 (gives 3 0 0 0) ∷
+    line 0 0 5 1 1 0 0 0 0 0 (gives 3 0 0 0) ∷
+    line 0 0 5 1 0 1 0 0 0 0 (gives 3 0 0 0) ∷
+    line 0 0 6 1 1 0 0 0 0 0 (gives 3 0 0 0) ∷
     line 0 0 6 1 0 1 0 0 0 0 (gives 3 0 0 0) ∷
     []
 

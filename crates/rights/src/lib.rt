@@ -1,6 +1,6 @@
 // Rights: read is 1, write is 2, pass on is 4, added together.
 ghost use mathlib.Core.Path.{_≡_};
-ghost use Rattle.rights.specs.Rules.{rightsOf, within};
+ghost use Rattle.rights.specs.Rules.{rightsOf, within, canRead, canWrite, canPass};
 
 // Any number is taken as it stands. Which numbers are good rights, 1 to 7, is for the tables' rule T2 and the request's ranges.
 pub struct Rights {
@@ -27,5 +27,23 @@ impl Rights {
         let a = asked.bits % 8;
         let h = self.bits % 8;
         a & h == a
+    }
+
+    pub fn can_read(self) -> bool
+        ensures { λ r. ⌜ r ≡ canRead self ⌝ }
+    {
+        self.contains(Rights::READ)
+    }
+
+    pub fn can_write(self) -> bool
+        ensures { λ r. ⌜ r ≡ canWrite self ⌝ }
+    {
+        self.contains(Rights::WRITE)
+    }
+
+    pub fn can_pass(self) -> bool
+        ensures { λ r. ⌜ r ≡ canPass self ⌝ }
+    {
+        self.contains(Rights::PASS_ON)
     }
 }

@@ -30,6 +30,6 @@ isFreeRun entries count first = leb (first + count) 256 && all (outside first co
 unfoldable pub lowestRun : List Entry → ℕ → ℕ
 lowestRun entries count = least (isFreeRun entries count) 256 0
 
--- there is one
+-- there is such a run
 unfoldable pub hasRun : List Entry → ℕ → Bool
 hasRun entries count = ltb (lowestRun entries count) 256
