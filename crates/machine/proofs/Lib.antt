@@ -1,3 +1,4 @@
+pub mod RefusalLaws
 pub mod CaseLines
 pub mod WorkedCases
 pub mod Traps

@@ -1,2 +1,4 @@
+pub mod KindLaws
+pub mod NameLaws
 pub mod Building
 pub mod OrderCases
