@@ -1,0 +1,10 @@
+pub mod SameIsEquivalence
+pub mod SaidFacts
+pub mod SameWalks
+pub mod SamePlaces
+pub mod SameRefusal
+pub mod SameRemoval
+pub mod SameTaking
+pub mod SamePassing
+pub mod SameStep
+pub mod KeptElsewhere
