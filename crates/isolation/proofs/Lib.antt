@@ -1,0 +1,13 @@
+pub mod Edge
+pub mod Sides
+pub mod AlikeFacts
+pub mod UnlinkedKept
+pub mod OutsiderIsQuiet
+pub mod SameRefusal
+pub mod SameChange
+pub mod SameTake
+pub mod SamePass
+pub mod GroupStep
+pub mod TwoSequences
+pub mod Isolation
+pub mod EachPremiseCounts
