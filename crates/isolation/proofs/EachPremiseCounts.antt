@@ -1,5 +1,6 @@
 -- Each condition of the claim counts: without it the claim is false, by a computed example. Left out in turn: no pass crosses the edge; a take
--- gets 11 in both or in neither; a write's bytes agree. And the claim cannot be made stronger: where the sheets lie may differ.
+-- gets 11 in both or in neither; a write's bytes agree. (That the group's requests agree in their numbers needs no example.) And the claim
+-- cannot be made stronger: where the sheets lie may differ.
 -- The group is program 0 of pad 0; the others' part is played by program 1.
 use Prim.Native.Nat.{ℕ}
 use mathlib.Core.Path.{_≡_, refl, ap, sym, _∙_}

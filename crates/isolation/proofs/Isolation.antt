@@ -8,7 +8,6 @@ use lib.ListN.{length-replicate}
 use Rattle.tables.specs.Names.{emptyTables}
 use Rattle.tables.specs.Lookup.{lookup}
 use Rattle.tables.proofs.KindLaws.{live-child, live-recall}
-use Rattle.machine.specs.declared.Request.{Request}
 use Rattle.machine.specs.State.{State, Outcome}
 use Rattle.machine.specs.Step.{serve}
 use Rattle.machine.specs.Empty.{emptyDock}
@@ -46,7 +45,6 @@ module _ (g : Group) where
       → Agreed g (i .request) (served s i) (served u j)
   unfolding enter exchange
   agreed s u i j al f c given =
-      let r : Request = i .request in
       let p = is-possible g (i .request) f in
       let m = is-in-group g (i .request) f in
       let e : served s i ≡ serve (enter s i) (i .request) = is-served s i (al .here .dock) in
