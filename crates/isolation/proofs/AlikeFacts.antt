@@ -1,33 +1,33 @@
 -- What two alike states have in common: the group's tickets and entries but for their first sheet, its free places, and what its tickets
 -- and entries reach. And the relation may change sides.
-use Prim.Native.Nat.{ℕ, suc}
+use Prim.Native.Nat.{ℕ, suc, _<_}
 use mathlib.Core.Path.{_≡_, refl, sym, ap, _∙_}
 use mathlib.Core.Bool.{Bool, true, false, _||_, cond}
 use mathlib.Core.List.{List, [], _∷_, map}
+use native.Mathlib.Omega.{arith}
 use lib.ListN.{getD, List·getD-map}
 use Rattle.lists.specs.Lists.{firstIndex, some}
 use Rattle.lists.proofs.Tests.{cannot-fail, contradiction}
-use Rattle.lists.proofs.Keyed.{nothing-found}
-use Rattle.tables.specs.declared.{Name.Name, Kind.Kind, Ticket.Ticket, Program.Program, Entry.Entry, Tables.Tables}
+use Rattle.tables.specs.declared.{Name.Name, Kind.Kind, Ticket.Ticket, Program.Program, Entry.Entry}
 use Rattle.tables.specs.declared.Kind.the-variants.{Free, Taken, Received, Child, Recall}
 use Rattle.tables.specs.Kinds.{isGrant}
-use Rattle.tables.specs.Names.{isNone, free, noEntry}
-use Rattle.tables.specs.Lookup.{ticketsOf, hasNumber, ticketIn, lookup, isNamed, entryIn, entryOf}
+use Rattle.tables.specs.Names.{isNone, free}
+use Rattle.tables.specs.Lookup.{ticketsOf, hasNumber, ticketIn, lookup, entryOf}
 use Rattle.tables.specs.Chains.{parentBy, parentOf, atOrUnder, entryParent, atOrBelow}
 use Rattle.tables.specs.Order.{underStore}
 use Rattle.tables.specs.Change.{isFree, hasPlace}
 use Rattle.machine.specs.State.{State}
 use Rattle.machine.specs.Sequence.{Group}
 use Rattle.machine.specs.Isolation.{owns}
-use Rattle.preservation.specs.InOrder.{entryKeys}
-use Rattle.preservation.proofs.AfterChange.{entryLaws, lookup-programs}
+use Rattle.preservation.proofs.AfterChange.{lookup-programs, no-entry-there}
 use Rattle.preservation.proofs.Walks.{reaches-same}
-use Rattle.isolation.specs.Alike.{blur, blurEntry, Mine, Alike, Quiet}
+use Rattle.preservation.proofs.ChainSteps.{entry-fits}
+use Rattle.isolation.specs.Alike.{blur, blurEntry, Mine, Alike, Quiet, sheetIn, Parted}
 use Rattle.isolation.proofs.Sides.{parent-side, dock-side}
 
-pub no-entry-there : (t : Tables) (n : Name) → entryOf t n .live ≡ false → entryOf t n ≡ noEntry
-unfolding entryIn isNamed
-no-entry-there t n l = nothing-found entryKeys entryLaws (t .entries) n l
+-- a sheet of the group's is a sheet of the store
+pub mine-low : (g : Group) (s : State) → Parted g s → {n : Name} {a : ℕ} → Mine g (s .tables) n a → sheetIn (s .tables) n a < 256
+mine-low g s p {n} m = omega (arith, entry-fits (s .tables) (p .dock .tables .order) n (m .live), m .low)
 
 -- ---- tests and searches that do not look at the first sheet
 first-blur : (f : Ticket → Bool) → ((k : Ticket) → f (blur k) ≡ f k) → (l : List Ticket) → firstIndex f (map blur l) ≡ firstIndex f l
@@ -102,7 +102,7 @@ module _ (g : Group) (s u : State) (al : Alike g s u) where
   pub same-live : (n : Name) → owns g n ≡ true → entryOf (s .tables) n .live ≡ entryOf (u .tables) n .live
   same-live n h = ap (λ (e : Entry). e .live) (al .entries n h)
 
-  same-entry-count : (n : Name) → owns g n ≡ true → entryOf (s .tables) n .count ≡ entryOf (u .tables) n .count
+  pub same-entry-count : (n : Name) → owns g n ≡ true → entryOf (s .tables) n .count ≡ entryOf (u .tables) n .count
   same-entry-count n h = ap (λ (e : Entry). e .count) (al .entries n h)
 
   same-entry-parent : (n : Name) → owns g n ≡ true → entryOf (s .tables) n .parent ≡ entryOf (u .tables) n .parent

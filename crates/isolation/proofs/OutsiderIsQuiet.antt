@@ -34,8 +34,8 @@ use Rattle.machine.specs.Sequence.{Group, fromGroup, crosses}
 use Rattle.machine.specs.Isolation.{owns, Unlinked}
 use Rattle.preservation.specs.Rules.{Inside, Apart, EntryOk}
 use Rattle.preservation.specs.InOrder.{ticketAt, ticketKeys, InOrder, DockOk}
-use Rattle.preservation.proofs.SheetTests.{apart-sym, run-fits}
-use Rattle.preservation.proofs.AfterChange.{ticketLaws, removed, dropped-program, entry-removed}
+use Rattle.preservation.proofs.SheetTests.{apart-sym, run-fits, beside}
+use Rattle.preservation.proofs.AfterChange.{ticketLaws, removed, dropped-program, entry-removed, no-entry-there}
 use Rattle.preservation.proofs.ChainSteps.{head-is-dock, within-entry, entry-fits}
 use Rattle.preservation.proofs.RemovingOperations.{drop-no-entry}
 use Rattle.preservation.proofs.Taking.{MayTake, TakeEffect, take-effect}
@@ -43,16 +43,11 @@ use Rattle.preservation.proofs.Passing.{MayPass, grantName, pass-near, pass-nea
 use Rattle.preservation.proofs.Preconditions.{numberOf, Past, past-request, late-0, late-12, may-take, may-pass, may-recall, may-give-back, MayUse, may-use, Stale, stale-of}
 use Rattle.preservation.proofs.StoreSheets.{sheet-kept}
 use Rattle.preservation.proofs.StepKeepsOrder.{serve-keeps-dock}
-use Rattle.isolation.specs.Alike.{Mine, Parted, Quiet}
+use Rattle.isolation.specs.Alike.{Parted, Quiet}
 use Rattle.isolation.proofs.Edge.{is-outside, on-one-side}
 use Rattle.isolation.proofs.Sides.{dock-side, not-under, not-below, sides-apart}
-use Rattle.isolation.proofs.AlikeFacts.{no-entry-there}
+use Rattle.isolation.proofs.AlikeFacts.{mine-low}
 use Rattle.isolation.proofs.UnlinkedKept.{unlinked-removed, unlinked-take, unlinked-near, unlinked-far}
-
--- a sheet of one run lies beside another run that shares no sheet with it
-pub beside : (f c h d i : ℕ) → Apart f c h d → i < d → (h + i < f) ⊎ (f + c ≤ h + i)
-beside f c h d i (inl v) w = inr (omega arith)
-beside f c h d i (inr v) w = inl (omega arith)
 
 -- ---- removal that spares the group
 cond-both : {A : Type 0} (b : Bool) (x : A) → cond b x x ≡ x
@@ -99,10 +94,6 @@ module _ (g : Group) (s : State) (parted : Parted g s) where
   abbrev apart : Unlinked g t
   apart = parted .unlinked
 
-  -- a sheet of the group's is a sheet of the store
-  mine-low : {n : Name} {a : ℕ} → Mine g t n a → entryOf t n .first + a < 256
-  mine-low {n} m = omega (arith, entry-fits t ok n (m .live), m .low)
-
   -- only the tables change
   quiet-tables : (t′ : Tables) → DockOk (withTables s t′) → Unlinked g t′ → ((p q : ℕ) → g p q ≡ true → programAt t′ p q ≡ programAt t p q)
       → ((n : Name) → owns g n ≡ true → entryOf t′ n ≡ entryOf t n) → Quiet g s (withTables s t′)
@@ -144,7 +135,7 @@ module _ (g : Group) (s : State) (parted : Parted g s) where
           entries = λ n h. e .entries n (λ w. no-true (sym out ∙ ap (owns g) (sym w) ∙ h));
           bytes = λ n a m.
               sheet-kept first (r .count) (replicate (64 * r .count) 0) (s .store) (parted .dock .store) (length-replicate _ 0)
-              (run-fits (t .entries) (r .count) (may .run)) (entryOf t n .first + a) (mine-low m)
+              (run-fits (t .entries) (r .count) (may .run)) (entryOf t n .first + a) (mine-low g s parted m)
               (beside first (r .count) (entryOf t n .first) (entryOf t n .count) a (e .apart n (m .live)) (m .low));
         }
 
@@ -198,7 +189,7 @@ module _ (g : Group) (s : State) (parted : Parted g s) where
       entries = kept-entry g t (atOrUnder t (askedName r)) (atOrBelow t (askedName r)) spare uncut;
       bytes = λ n a m.
           sheet-kept (asked t r .first) (asked t r .count) (replicate (64 * asked t r .count) 0) (s .store) (parted .dock .store) (length-replicate _ 0) fits
-          (entryOf t n .first + a) (mine-low m)
+          (entryOf t n .first + a) (mine-low g s parted m)
           (rw (own .first, own .count)
           (beside (entryOf t (askedName r) .first) (entryOf t (askedName r) .count) (entryOf t n .first) (entryOf t n .count) a
           (apart-sym _ _ _ _ (sides-apart g t ok apart n (askedName r) (m .own) out (m .live) live)) (m .low)));
@@ -235,7 +226,7 @@ module _ (g : Group) (s : State) (parted : Parted g s) where
       programs = λ p q h. refl;
       entries = λ n h. refl;
       bytes = λ n a m.
-          sheet-kept (sheetOf t r) 1 (s .sheet) (s .store) (parted .dock .store) buf fits (entryOf t n .first + a) (mine-low m)
+          sheet-kept (sheetOf t r) 1 (s .sheet) (s .store) (parted .dock .store) buf fits (entryOf t n .first + a) (mine-low g s parted m)
           (side (entryOf t n) a
           (sides-apart g t ok apart n (asked t r .dock) (m .own) (dock-side g t ok apart (askedName r) (may .grant) ∙ out) (m .live) (may .known)) (m .low));
     }

@@ -10,7 +10,7 @@ use lib.Dec.{ltb}
 use lib.ListN.{length}
 use borrow.Author.Tests.{ltb-true, ltb-false}
 use Rattle.lists.proofs.Tests.{Case, pass, fail, case}
-use Rattle.tables.specs.declared.{Name.Name, Ticket.Ticket, Entry.Entry, Tables.Tables}
+use Rattle.tables.specs.declared.{Name.Name, Ticket.Ticket, Tables.Tables}
 use Rattle.tables.specs.Kinds.{isLive, isGrant}
 use Rattle.tables.specs.Names.{nameOf, free, noEntry}
 use Rattle.tables.specs.Lookup.{ticketsOf, lookup, entryOf}
@@ -24,14 +24,10 @@ use Rattle.preservation.proofs.AfterChange.{removed, lookup-removed, entry-remo
 use Rattle.preservation.proofs.ChainSteps.{entry-fits}
 use Rattle.preservation.proofs.RemovingOperations.{drop-no-entry}
 use Rattle.preservation.proofs.StoreSheets.{length-put, sheet-kept, sheet-put}
-use Rattle.isolation.specs.Alike.{blur, blurEntry, Mine, sheetIn, Parted, Alike}
+use Rattle.isolation.specs.Alike.{blur, blurEntry, Mine, sheetIn, Alike}
 use Rattle.isolation.proofs.Sides.{dock-side}
-use Rattle.isolation.proofs.AlikeFacts.{mine-there}
+use Rattle.isolation.proofs.AlikeFacts.{mine-there, mine-low, same-live, same-entry-count}
 use Rattle.isolation.proofs.UnlinkedKept.{removed-ticket, removed-entry, unlinked-removed}
-
--- a sheet of the group's is a sheet of the store
-pub mine-low : (g : Group) (s : State) → Parted g s → {n : Name} {a : ℕ} → Mine g (s .tables) n a → sheetIn (s .tables) n a < 256
-mine-low g s p {n} m = omega (arith, entry-fits (s .tables) (p .dock .tables .order) n (m .live), m .low)
 
 -- ---- the same bytes vs, c sheets of them, put at the offset o of the entry d
 module _ (g : Group) (s u : State) (al : Alike g s u) (d : Name) (own : owns g d ≡ true) (live : entryOf (s .tables) d .live ≡ true)
@@ -50,7 +46,7 @@ module _ (g : Group) (s u : State) (al : Alike g s u) (d : Name) (own : owns g d
   fits₁ = omega (arith, entry-fits (s .tables) (al .here .dock .tables .order) d live)
 
   fits₂ : f₂ + c ≤ 256
-  fits₂ = omega (arith, entry-fits (u .tables) (al .there .dock .tables .order) d (sym (ap (λ (e : Entry). e .live) (al .entries d own)) ∙ live), ap (λ (e : Entry). e .count) (al .entries d own))
+  fits₂ = omega (arith, entry-fits (u .tables) (al .there .dock .tables .order) d (sym (same-live g s u al d own) ∙ live), same-entry-count g s u al d own)
 
   abbrev after₁ : State
   after₁ = record { tables = s .tables; store = putSheets f₁ vs (s .store); sheet = s .sheet }

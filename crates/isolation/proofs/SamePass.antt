@@ -15,7 +15,6 @@ use Rattle.tables.specs.declared.Kind.the-variants.{Received, Child}
 use Rattle.tables.specs.Kinds.{isGrant}
 use Rattle.tables.specs.Names.{eqName, sameProgram, grantTicket, headTicket, recallTicket, entryFor}
 use Rattle.tables.specs.Lookup.{ticketsOf, lastOf, lookup, entryOf}
-use Rattle.tables.proofs.KindLaws.{live-head}
 use Rattle.tables.proofs.NameLaws.{name-eq, eqName-true, eqName-ne, program-same}
 use Rattle.machine.specs.declared.Request.{Request}
 use Rattle.machine.specs.State.{State, withTables, sheetAt, askedName}
@@ -24,7 +23,7 @@ use Rattle.machine.specs.Sequence.{Group}
 use Rattle.machine.specs.Isolation.{owns}
 use Rattle.preservation.specs.Rules.{Inside}
 use Rattle.preservation.specs.InOrder.{InOrder, DockOk}
-use Rattle.preservation.proofs.ChainSteps.{dock-head, within-entry}
+use Rattle.preservation.proofs.ChainSteps.{dock-live, within-entry}
 use Rattle.preservation.proofs.NewNames.{not-past}
 use Rattle.preservation.proofs.Passing.{MayPass, recallName, grantName, newRecall, newChild, newReceived, newEntry, Gained, PassEffect, pass-near, pass-near-entries, pass-far, pass-far-entry}
 use Rattle.isolation.specs.Alike.{blur, blurEntry, Mine, sheetIn, Alike}
@@ -119,8 +118,7 @@ module _ (g : Group) (s u : State) (al : Alike g s u) (r : Request) (mine : g (r
         let c₀ : isGrant (lookup (s .tables) n .kind) ≡ true = rw z at c in
         let l₀ : entryOf t₁ (lookup (s .tables) n .dock) .live ≡ true = rw z at l in
         let v : lookup (s .tables) n .dock ≡ y → ⊥
-        = not-past (s .tables) ok y refl (lookup (s .tables) n .dock)
-        (live-head (lookup (s .tables) (lookup (s .tables) n .dock) .kind) (dock-head (s .tables) ok n c₀)) in
+        = not-past (s .tables) ok y refl (lookup (s .tables) n .dock) (dock-live (s .tables) ok n c₀) in
         let i = effect .entries (lookup (s .tables) n .dock) v in
         rw (z, tickets₂ n (eqName-ne n x d) (eqName-ne n y e), i, entries₂ (lookup (s .tables) n .dock) v) (al .offset n h c₀ (rw i at l₀))
 

@@ -1,14 +1,15 @@
 -- A take on both sides keeps two states alike. The new names are equal; the new sheets may lie elsewhere, but outside all entries on either
 -- side, so they overlap nothing and hold zeros on both.
-use Prim.Native.Nat.{ℕ, zero, suc, _+_, _*_, _<_}
+use Prim.Native.Nat.{ℕ, suc, _+_, _*_, _<_}
 use mathlib.Core.Path.{_≡_, refl, sym, ap, _∙_}
-use mathlib.Core.Logic.{_↔_, inl, inr}
+use mathlib.Core.Logic.{_↔_}
 use mathlib.Core.Bool.{true}
-use mathlib.Core.List.{List, [], _∷_, map}
+use mathlib.Core.List.{List, map}
 use native.Mathlib.Omega.{arith}
 use lib.ListN.{set, replicate, length-replicate}
 use Rattle.lists.specs.Lists.{firstIndex}
 use Rattle.lists.proofs.Tests.{Case, pass, fail, case}
+use Rattle.lists.proofs.Everywhere.{map-set}
 use Rattle.rights.specs.Rules.{rightsOf}
 use Rattle.tables.specs.declared.{Name.Name, Ticket.Ticket, Program.Program, Entry.Entry, Tables.Tables}
 use Rattle.tables.specs.declared.Kind.the-variants.{Taken}
@@ -17,43 +18,29 @@ use Rattle.tables.specs.Names.{noName, eqName, sameProgram, headTicket, entryFo
 use Rattle.tables.specs.Lookup.{ticketsOf, lastOf, lookup, entryOf}
 use Rattle.tables.specs.Change.{isFree, newName}
 use Rattle.tables.specs.Sheets.{lowestRun}
-use Rattle.tables.proofs.KindLaws.{live-head}
 use Rattle.tables.proofs.NameLaws.{name-eq, eqName-true, eqName-ne, program-same}
 use Rattle.machine.specs.declared.Request.{Request}
 use Rattle.machine.specs.State.{State, accepted, sheetAt, putSheets, clearSheets}
 use Rattle.machine.specs.Take.{takeTables, afterTake}
 use Rattle.machine.specs.Sequence.{Group}
 use Rattle.machine.specs.Isolation.{owns}
-use Rattle.preservation.specs.Rules.{Apart}
 use Rattle.preservation.specs.InOrder.{DockOk}
-use Rattle.preservation.proofs.SheetTests.{run-fits}
-use Rattle.preservation.proofs.ChainSteps.{dock-head}
+use Rattle.preservation.proofs.SheetTests.{run-fits, apart-ne, beside}
+use Rattle.preservation.proofs.ChainSteps.{dock-live}
 use Rattle.preservation.proofs.NewNames.{not-past}
 use Rattle.preservation.proofs.Taking.{MayTake, TakeEffect, take-effect}
 use Rattle.preservation.proofs.StoreSheets.{sheet-kept, sheet-put}
 use Rattle.isolation.specs.Alike.{blur, blurEntry, Mine, sheetIn, Alike}
-use Rattle.isolation.proofs.AlikeFacts.{place-blur, mine-there}
+use Rattle.isolation.proofs.AlikeFacts.{place-blur, mine-there, mine-low}
 use Rattle.isolation.proofs.UnlinkedKept.{unlinked-take}
-use Rattle.isolation.proofs.OutsiderIsQuiet.{beside}
-use Rattle.isolation.proofs.SameChange.{mine-low}
 
 -- ---- a ticket put in the lowest free place on both sides
-map-set : {A B : Type 0} (f : A → B) (l : List A) (i : ℕ) (a : A) → map f (set l i a) ≡ set (map f l) i (f a)
-map-set f [] i a = refl
-map-set f (x ∷ xs) zero a = refl
-map-set {A} {B} f (x ∷ xs) (suc i) a = ap {B = List B} (λ r. f x ∷ r) (map-set f xs i a)
-
 pub put-both : (ts us : List Ticket) (k k₂ : Ticket) → map blur ts ≡ map blur us → blur k ≡ blur k₂
     → map blur (set ts (firstIndex isFree ts) k) ≡ map blur (set us (firstIndex isFree us) k₂)
 put-both ts us k k₂ e like =
     map-set blur ts (firstIndex isFree ts) k ∙ ap (λ (l : List Ticket). set l (firstIndex isFree ts) (blur k)) e
     ∙ ap (λ (i : ℕ). set (map blur us) i (blur k)) (place-blur ts us e) ∙ ap (set (map blur us) (firstIndex isFree us)) like
     ∙ sym (map-set blur us (firstIndex isFree us) k₂)
-
--- two runs that share no sheet have no sheet in common
-apart-ne : (f c h d a b : ℕ) → Apart f c h d → a < c → b < d → f + a ≡ h + b → ⊥
-apart-ne f c h d a b (inl x) y z e = omega arith
-apart-ne f c h d a b (inr x) y z e = omega arith
 
 module _ (g : Group) (s u : State) (al : Alike g s u) (r : Request) (mine : g (r .pad) (r .program) ≡ true)
     (may : MayTake (s .tables) r) (may₂ : MayTake (u .tables) r) where
@@ -143,8 +130,7 @@ module _ (g : Group) (s u : State) (al : Alike g s u) (r : Request) (mine : g (r
       let k₀ : isGrant (lookup (s .tables) n .kind) ≡ true = rw a at k in
       let l₀ : entryOf t₁ (lookup (s .tables) n .dock) .live ≡ true = rw a at l in
       let v : lookup (s .tables) n .dock ≡ x → ⊥
-      = not-past (s .tables) (al .here .dock .tables .order) x refl (lookup (s .tables) n .dock)
-      (live-head (lookup (s .tables) (lookup (s .tables) n .dock) .kind) (dock-head (s .tables) (al .here .dock .tables .order) n k₀)) in
+      = not-past (s .tables) (al .here .dock .tables .order) x refl (lookup (s .tables) n .dock) (dock-live (s .tables) (al .here .dock .tables .order) n k₀) in
       rw (a, tickets₂ n z, effect .entries (lookup (s .tables) n .dock) v, entries₂ (lookup (s .tables) n .dock) v)
       (al .offset n h k₀ (rw (effect .entries (lookup (s .tables) n .dock) v) at l₀))
 

@@ -6,13 +6,13 @@ use mathlib.Core.Bool.{Bool, true, false, not, _&&_, _||_}
 use mathlib.Core.List.{List, [], _∷_, map}
 use native.Mathlib.Nat.{le-of-suc-le-suc, not-suc-le-zero}
 use native.Mathlib.Omega.{arith}
-use lib.ListN.{length, getD}
+use lib.ListN.{length, getD, set}
 use borrow.Author.Tests.{not-true}
 use Rattle.lists.specs.Tests.{implies}
 use Rattle.lists.specs.Lists.{all, some, noTwo, allAt, someAt, mapAt}
 use Rattle.lists.proofs.Tests.{Case, pass, fail, case, no-true, contradiction, cannot-pass, and-l, and-r, and-intro, or-left, or-right, not-test, implies-intro, implies-elim}
 
-pub zero-plus : (j : ℕ) → 0 + j ≡ j
+zero-plus : (j : ℕ) → 0 + j ≡ j
 zero-plus j = omega arith
 
 module _ {A : Type 0} (d : A) where
@@ -150,3 +150,8 @@ module _ {A : Type 0} where
   pub map-id : (h : A → A) → ((x : A) → h x ≡ x) → (l : List A) → map h l ≡ l
   map-id h e [] = refl
   map-id h e (x ∷ xs) = λ j. e x j ∷ map-id h e xs j
+
+pub map-set : {A B : Type 0} (f : A → B) (l : List A) (i : ℕ) (a : A) → map f (set l i a) ≡ set (map f l) i (f a)
+map-set f [] i a = refl
+map-set f (x ∷ xs) zero a = refl
+map-set {A} {B} f (x ∷ xs) (suc i) a = ap {B = List B} (λ r. f x ∷ r) (map-set f xs i a)

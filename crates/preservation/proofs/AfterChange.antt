@@ -13,7 +13,7 @@ use borrow.Author.Tests.{eqb-true, eqb-false, eq-eqb}
 use Rattle.lists.specs.Lists.{firstIndex, some, mapAt}
 use Rattle.lists.proofs.Tests.{Case, pass, fail, case}
 use Rattle.lists.proofs.Everywhere.{getD-mapAt, length-mapAt}
-use Rattle.lists.proofs.Keyed.{Lawful, byKey, Distinct, put-same, put-other, put-length, put-distinct, dropped-length, drop-found, drop-distinct}
+use Rattle.lists.proofs.Keyed.{Lawful, byKey, Distinct, nothing-found, put-same, put-other, put-length, put-distinct, dropped-length, drop-found, drop-distinct}
 use Rattle.tables.specs.declared.{Name.Name, Ticket.Ticket, Program.Program, Pad.Pad, Entry.Entry, Tables.Tables}
 use Rattle.tables.specs.Kinds.{isLive}
 use Rattle.tables.specs.Names.{nameOf, sameProgram, free, noEntry, noProgram, noPad}
@@ -36,6 +36,11 @@ lookup-keyed t n = refl
 pub entry-keyed : (t : Tables) (n : Name) → entryOf t n ≡ byKey entryKeys (t .entries) n
 unfolding entryIn isNamed
 entry-keyed t n = refl
+
+-- a name without a live entry finds the free record
+pub no-entry-there : (t : Tables) (n : Name) → entryOf t n .live ≡ false → entryOf t n ≡ noEntry
+unfolding entryIn isNamed
+no-entry-there t n l = nothing-found entryKeys entryLaws (t .entries) n l
 
 -- a name's ticket is found in its own program
 pub lookup-programs : (t t′ : Tables) (n : Name) → programAt t′ (n .pad) (n .program) ≡ programAt t (n .pad) (n .program) → lookup t′ n ≡ lookup t n
@@ -63,31 +68,31 @@ module _ (gone : Name → Bool) where
       ap (λ (x : Pad). getD (x .programs) q noProgram) (getD-mapAt noPad (dropInPad gone) no-pad (t .pads) p)
       ∙ getD-mapAt noProgram (dropInProgram gone p) (no-program p) (padAt t p .programs) q
 
-  pub dropped-tickets : (t : Tables) (p q : ℕ) → ticketsOf (dropTickets gone t) p q ≡ map (dropTicket gone p q) (ticketsOf t p q)
+  dropped-tickets : (t : Tables) (p q : ℕ) → ticketsOf (dropTickets gone t) p q ≡ map (dropTicket gone p q) (ticketsOf t p q)
   unfolding dropInProgram
   dropped-tickets t p q = ap (λ (x : Program). x .tickets) (dropped-program t p q)
 
-  pub last-drop : (t : Tables) (p q : ℕ) → lastOf (dropTickets gone t) p q ≡ lastOf t p q
+  last-drop : (t : Tables) (p q : ℕ) → lastOf (dropTickets gone t) p q ≡ lastOf t p q
   unfolding dropInProgram
   last-drop t p q = ap (λ (x : Program). x .last) (dropped-program t p q)
 
-  pub lookup-drop : (t : Tables) (n : Name) → lookup (dropTickets gone t) n ≡ cond (gone n) free (lookup t n)
+  lookup-drop : (t : Tables) (n : Name) → lookup (dropTickets gone t) n ≡ cond (gone n) free (lookup t n)
   unfolding lookup ticketIn hasNumber dropTicket
   lookup-drop t n =
       ap (λ (l : List Ticket). ticketIn l (n .number)) (dropped-tickets t (n .pad) (n .program))
       ∙ drop-found ticketKeys ticketLaws (λ m. gone (nameOf (n .pad) (n .program) m)) (ticketsOf t (n .pad) (n .program)) (n .number)
 
-  pub entries-drop : (t : Tables) (n : Name) → entryOf (dropTickets gone t) n ≡ entryOf t n
+  entries-drop : (t : Tables) (n : Name) → entryOf (dropTickets gone t) n ≡ entryOf t n
   unfolding dropTickets
   entries-drop t n = refl
 
 -- ---- entries removed
 module _ (cut : Name → Bool) where
-  pub entry-drop : (t : Tables) (n : Name) → entryOf (dropEntries cut t) n ≡ cond (cut n) noEntry (entryOf t n)
+  entry-drop : (t : Tables) (n : Name) → entryOf (dropEntries cut t) n ≡ cond (cut n) noEntry (entryOf t n)
   unfolding entryIn isNamed dropEntries dropEntry
   entry-drop t n = drop-found entryKeys entryLaws cut (t .entries) n
 
-  pub lookup-cut : (t : Tables) (n : Name) → lookup (dropEntries cut t) n ≡ lookup t n
+  lookup-cut : (t : Tables) (n : Name) → lookup (dropEntries cut t) n ≡ lookup t n
   unfolding dropEntries lookup
   lookup-cut t n = refl
 

@@ -13,13 +13,13 @@ use Rattle.tables.specs.Names.{eqName, isNone}
 use Rattle.tables.specs.Lookup.{lastOf, lookup, entryOf}
 use Rattle.tables.specs.Chains.{endOf, ownName, parentOf, atOrUnder, chainHead, entryParent, atOrBelow}
 use Rattle.tables.specs.Order.{underStore}
-use Rattle.tables.proofs.KindLaws.{live-grant, live-child, live-recall, head-grant, child-head, recall-head, head-up, has-parent, grant-sort}
+use Rattle.tables.proofs.KindLaws.{live-grant, live-child, live-recall, head-grant, child-head, recall-head, head-up, has-parent, grant-sort, live-head}
 use Rattle.tables.proofs.NameLaws.{eqName-false}
 use Rattle.preservation.specs.Rules.{Span, Inside, Contains, EntryOk, Ends, here, up}
 use Rattle.preservation.specs.InOrder.{InOrder}
 use Rattle.preservation.proofs.SheetTests.{inside-refl, inside-trans}
 use Rattle.preservation.proofs.Walks.{reaches-here, reaches-up, end-here, end-next}
-use Rattle.preservation.proofs.RuleFacts.{entry-head, child-up, recall-up, child-linked, recall-linked, ticket-chain}
+use Rattle.preservation.proofs.RuleFacts.{entry-head, child-up, recall-up, child-linked, recall-linked, ticket-chain, live-named}
 use Rattle.preservation.proofs.Places.{chain-short, entry-chain-short}
 
 module _ (t : Tables) (ok : InOrder t) where
@@ -140,6 +140,12 @@ module _ (t : Tables) (ok : InOrder t) where
 
     pub dock-head : isHead (lookup t (lookup t n .dock) .kind) ≡ true
     dock-head = own-head .grant
+
+    pub dock-live : isLive (lookup t (lookup t n .dock) .kind) ≡ true
+    dock-live = live-head (lookup t (lookup t n .dock) .kind) dock-head
+
+    pub dock-named : isNone (lookup t n .dock) ≡ false
+    dock-named = live-named (lookup t) (entryOf t) (lastOf t) (ok .rules) (lookup t n .dock) dock-live
 
     -- its sheets and rights lie within the entry of its dock name, where that is live
     pub within-entry : entryOf t (lookup t n .dock) .live ≡ true

@@ -65,10 +65,10 @@ module _ (tickets tickets′ : Name → Ticket) (entries entries′ : Name → E
   parent-kept : (n : Name) → isLive (tickets n .kind) ≡ true → parentOf tickets′ n ≡ parentOf tickets n
   parent-kept n l = ap (λ (k : Ticket). parentBy (k .kind) n k) (inserted .ticketsKept n l)
 
-  pub old-chain : {n : Name} {d : ℕ} → isLive (tickets n .kind) ≡ true → Ends (parentOf tickets) n d → Ends (parentOf tickets′) n d
+  old-chain : {n : Name} {d : ℕ} → isLive (tickets n .kind) ≡ true → Ends (parentOf tickets) n d → Ends (parentOf tickets′) n d
   old-chain = ends-kept (λ m. isLive (tickets m .kind) ≡ true) (λ m l. parent-live tickets entries lasts rules m) parent-kept
 
-  pub old-entry-chain : {n : Name} {d : ℕ} → entries n .live ≡ true → Ends (entryParent entries) n d → Ends (entryParent entries′) n d
+  old-entry-chain : {n : Name} {d : ℕ} → entries n .live ≡ true → Ends (entryParent entries) n d → Ends (entryParent entries′) n d
   old-entry-chain =
       ends-kept (λ m. entries m .live ≡ true) (λ m l z. rules .under m l z .live) (λ m l. ap (λ (e : Entry). e .parent) (inserted .entriesKept m l))
 
@@ -113,7 +113,7 @@ module _ (tickets tickets′ : Name → Ticket) (entries entries′ : Name → E
     old-once r m s e (inl k) = rules .once n m r (rw (inserted .ticketsKept m k) at s) (rw (inserted .ticketsKept m k) at e)
     old-once r m s e (inr k) = sym (k .once s n (rw same r) (sym e ∙ ap (λ (x : Ticket). x .other) (sym same)))
 
-    pub as-new : NewTicket tickets′ entries′ lasts′ n
+    as-new : NewTicket tickets′ entries′ lasts′ n
     as-new = record {
       named = wider n (rules .named n l);
       number = rw same (rules .number n l);
@@ -142,7 +142,7 @@ module _ (tickets tickets′ : Name → Ticket) (entries entries′ : Name → E
         apart-sym (entries′ m .first) (entries′ m .count) (entries n .first) (entries n .count)
         (rw entry-same at (k .roots w n (rw entry-same l) (rw entry-same z) (λ e. ne (sym e))))
 
-    pub as-new-entry : NewEntry tickets′ entries′ n
+    as-new-entry : NewEntry tickets′ entries′ n
     as-new-entry = record {
       entryName = rw entry-same (rules .entryName n l);
       entry = rw (entry-same, inserted .ticketsKept n (live-head (tickets n .kind) (entry-head (rules .entry n l)))) (rules .entry n l);

@@ -2,6 +2,7 @@ pub mod SheetTests
 pub mod Walks
 pub mod RuleFacts
 pub mod AfterChange
+pub mod TestsByName
 pub mod Places
 pub mod ChainSteps
 pub mod Removal
@@ -16,7 +17,6 @@ pub mod StoreSheets
 pub mod DockCheck
 pub mod Results
 pub mod EveryOperationKeeps
-pub mod TestsByName
 pub mod TestMeansOrder
 pub mod OrderPassesTest
 pub mod EmptyDockInOrder

@@ -16,7 +16,7 @@ use Rattle.tables.specs.Kinds.{isLive, isChild, isRecall}
 use Rattle.tables.specs.Names.{eqName, isNone, sameProgram}
 use Rattle.tables.specs.Lookup.{lastOf, lookup, entryOf}
 use Rattle.tables.specs.Chains.{parentBy, parentOf, entryParent}
-use Rattle.tables.proofs.KindLaws.{live-grant, live-child, head-grant}
+use Rattle.tables.proofs.KindLaws.{live-grant, live-child}
 use Rattle.tables.proofs.NameLaws.{eqName-true, eqName-ne, program-same, program-apart}
 use Rattle.machine.specs.declared.Request.{Request}
 use Rattle.machine.specs.State.{askedName}
@@ -27,7 +27,7 @@ use Rattle.preservation.proofs.SheetTests.{inside-trans}
 use Rattle.preservation.proofs.Walks.{ends-kept}
 use Rattle.preservation.proofs.RuleFacts.{grant-named, parent-live}
 use Rattle.preservation.proofs.Insertion.{NewTicket, NewEntry, Inserted, invariant-inserted}
-use Rattle.preservation.proofs.ChainSteps.{has-chain, dock-head, within-entry}
+use Rattle.preservation.proofs.ChainSteps.{has-chain, dock-named, within-entry}
 use Rattle.preservation.proofs.NewNames.{past-given, not-past, not-past-entry, new-head}
 use Rattle.preservation.proofs.Passing.{MayPass, recallName, grantName, newRecall, newChild, newReceived, newEntry, PassEffect, pass-near, pass-near-entries, pass-far, pass-far-entry}
 
@@ -209,6 +209,9 @@ module _ (t : Tables) (ok : Invariant t) (r : Request) (may : MayPass t r) where
     at-entry : entryOf t′ y ≡ newEntry t r
     at-entry = pass-far-entry t (ok .order) r may away
 
+    named : isNone (k .dock) ≡ false
+    named = dock-named t (ok .order) a (may .grant)
+
     known : entryOf t (k .dock) .live ≡ true
     known = may .known away
 
@@ -221,9 +224,6 @@ module _ (t : Tables) (ok : Invariant t) (r : Request) (may : MayPass t r) where
     far-y =
         new-head (lookup t′) (entryOf t′) (lastOf t′) y Received (k .first + r .first) (r .count) (rightsOf (r .rights)) (far .grant) refl refl
         (given-y (newReceived t r) refl refl far) span (λ h. no-true h)
-
-    dock-named : isNone (k .dock) ≡ false
-    dock-named = grant-named (lookup t) (entryOf t) (lastOf t) (ok .order .rules) (k .dock) (head-grant (lookup t (k .dock) .kind) (dock-head t (ok .order) a (may .grant)))
 
     -- the entry of the ticket's dock name contains the ticket, and so the new entry
     entry-contains : Inside (k .first) (k .count) (k .rights) (entryOf t (k .dock) .first) (entryOf t (k .dock) .count) (entryOf t (k .dock) .rights)
@@ -246,7 +246,7 @@ module _ (t : Tables) (ok : Invariant t) (r : Request) (may : MayPass t r) where
         = ends-kept (λ m. entryOf t m .live ≡ true) (λ m l z. ok .order .rules .under m l z .live)
         (λ m l. ap (λ (z : Entry). z .parent) (far .entries m (not-past-entry t (ok .order) y refl m l))) known (c .1) in (
           suc (c .0),
-          up {n = y} {d = c .0} (ap isNone up-y ∙ dock-named) (subst (λ (m : Name). Ends (entryParent (entryOf t′)) m (c .0)) (sym up-y) old),
+          up {n = y} {d = c .0} (ap isNone up-y ∙ named) (subst (λ (m : Name). Ends (entryParent (entryOf t′)) m (c .0)) (sym up-y) old),
         )
 
     new-entry-y : NewEntry (lookup t′) (entryOf t′) y
@@ -254,10 +254,10 @@ module _ (t : Tables) (ok : Invariant t) (r : Request) (may : MayPass t r) where
       entryName = rw at-entry;
       entry =
           rw (at-entry, far .grant)
-          (record { taken = λ z. contradiction z dock-named; received = λ z. refl; first = refl; count = refl; rights = refl });
+          (record { taken = λ z. contradiction z named; received = λ z. refl; first = refl; count = refl; rights = refl });
       under = rw at-entry λ z. under-dock;
       entryChain = entry-chain;
-      roots = λ z. contradiction (rw at-entry at z) dock-named;
+      roots = λ z. contradiction (rw at-entry at z) named;
     }
 
     new-entries : (n : Name) → entryOf t′ n .live ≡ true → Case (eqName n y) → (entryOf t n .live ≡ true) ⊎ NewEntry (lookup t′) (entryOf t′) n

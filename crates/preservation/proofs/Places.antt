@@ -12,7 +12,7 @@ use Rattle.lists.specs.Lists.{firstIndex, some}
 use Rattle.lists.proofs.Tests.{cannot-fail, contradiction}
 use Rattle.lists.proofs.Search.{find-passes, some-first}
 use Rattle.lists.proofs.Everywhere.{some-intro}
-use Rattle.lists.proofs.Keyed.{found-low, found-somewhere}
+use Rattle.lists.proofs.Keyed.{found-low}
 use Rattle.lists.proofs.Pigeonhole.{none-left-out}
 use Rattle.tables.specs.declared.{Name.Name, Ticket.Ticket, Entry.Entry, Tables.Tables}
 use Rattle.tables.specs.Kinds.{isLive, isChild, isRecall}
@@ -23,14 +23,15 @@ use Rattle.tables.specs.Change.{isFree, hasPlace, isSpare}
 use Rattle.tables.proofs.KindLaws.{live-head, has-parent}
 use Rattle.tables.proofs.NameLaws.{name-eq}
 use Rattle.preservation.specs.Rules.{Given, Ends}
-use Rattle.preservation.specs.InOrder.{ticketAt, entryAt, ticketKeys, entryKeys, InOrder}
+use Rattle.preservation.specs.InOrder.{ticketAt, entryAt, entryKeys, InOrder}
 use Rattle.preservation.proofs.Walks.{chain-length}
 use Rattle.preservation.proofs.RuleFacts.{entry-head, child-up, recall-up, parent-live}
-use Rattle.preservation.proofs.AfterChange.{ticketLaws, entryLaws, lookup-keyed, entry-keyed}
+use Rattle.preservation.proofs.AfterChange.{entryLaws, entry-keyed}
+use Rattle.preservation.proofs.TestsByName.{place-low, at-entry-name}
 
 module _ (t : Tables) (ok : InOrder t) where
   -- ---- the place of a name's ticket: in its program, on its pad, on all pads
-  abbrev pub placeIn : Name → ℕ
+  abbrev placeIn : Name → ℕ
   placeIn n = firstIndex (hasNumber (n .number)) (ticketsOf t (n .pad) (n .program))
 
   placeOnPad : Name → ℕ
@@ -47,15 +48,14 @@ module _ (t : Tables) (ok : InOrder t) where
     given : Given (lastOf t) n
     given = ok .rules .named n l
 
-    place-low : placeIn n < 8
-    unfolding hasNumber
-    place-low =
+    below-8 : placeIn n < 8
+    below-8 =
         subst (λ (m : ℕ). placeIn n < m) (ok .shape .sized .tickets (n .pad) (n .program) (omega (arith, given .pad)) (omega (arith, given .program)))
-        (found-low ticketKeys ticketLaws (ticketsOf t (n .pad) (n .program)) (n .number) (ap (λ (k : Ticket). isLive (k .kind)) (sym (lookup-keyed t n)) ∙ l))
+        (place-low t (ok .shape .sized) n l)
 
     pad-low : placeOnPad n < 64
     unfolding placeOnPad
-    pad-low = omega (arith, place-low, given .program)
+    pad-low = omega (arith, below-8, given .program)
 
     all-low : placeOfAll n < 256
     unfolding placeOfAll
@@ -72,14 +72,14 @@ module _ (t : Tables) (ok : InOrder t) where
 
     pad-once : n .pad ≡ m .pad → placeOnPad n ≡ placeOnPad m → n ≡ m
     unfolding placeOnPad
-    pad-once p e = place-once p (omega (arith, e, place-low n l, place-low m k)) (omega (arith, e, place-low n l, place-low m k))
+    pad-once p e = place-once p (omega (arith, e, below-8 n l, below-8 m k)) (omega (arith, e, below-8 n l, below-8 m k))
 
     all-once : placeOfAll n ≡ placeOfAll m → n ≡ m
     unfolding placeOfAll
     all-once e = pad-once (omega (arith, e, pad-low n l, pad-low m k)) (omega (arith, e, pad-low n l, pad-low m k))
 
   -- ---- chains on a pad
-  pub parent-pad : (n : Name) → isNone (parentOf (lookup t) n) ≡ false → parentOf (lookup t) n .pad ≡ n .pad
+  parent-pad : (n : Name) → isNone (parentOf (lookup t) n) ≡ false → parentOf (lookup t) n .pad ≡ n .pad
   parent-pad n z = go (has-parent (lookup t n .kind) n (lookup t n) z)
     where
       go : (isChild (lookup t n .kind) ≡ true) ⊎ (isRecall (lookup t n .kind) ≡ true) → parentOf (lookup t) n .pad ≡ n .pad
@@ -133,8 +133,7 @@ module _ (t : Tables) (ok : InOrder t) where
 
     entry-live : (i : ℕ) → i < 256 → entryOf t (entryAt t i .name) .live ≡ true
     entry-live i h =
-        ap (λ (e : Entry). e .live) (entry-keyed t (entryAt t i .name))
-        ∙ found-somewhere entryKeys entryLaws (t .entries) i (subst (λ (m : ℕ). i < m) (sym (ok .shape .sized .entries)) h) (all-live i h)
+        ap (λ (e : Entry). e .live) (at-entry-name t (ok .shape) i (subst (λ (m : ℕ). i < m) (sym (ok .shape .sized .entries)) h) (all-live i h)) ∙ all-live i h
 
     grant-live : (i : ℕ) → i < 256 → isLive (lookup t (entryAt t i .name) .kind) ≡ true
     grant-live i h = live-head (lookup t (entryAt t i .name) .kind) (entry-head (ok .rules .entry (entryAt t i .name) (entry-live i h)))
@@ -145,9 +144,9 @@ module _ (t : Tables) (ok : InOrder t) where
     not-free : (n : Name) → isLive (lookup t n .kind) ≡ true → placeOfAll n ≡ freeOfAll → ⊥
     unfolding placeOfAll placeOnPad isFree
     not-free n l e =
-        let a : n .pad ≡ p = omega (arith, e, place-low n l, given n l .program, free-below-8) in
-        let b : n .program ≡ q = omega (arith, e, place-low n l, given n l .program, free-below-8) in
-        let c : placeIn n ≡ freePlace = omega (arith, e, place-low n l, given n l .program, free-below-8) in
+        let a : n .pad ≡ p = omega (arith, e, below-8 n l, given n l .program, free-below-8) in
+        let b : n .program ≡ q = omega (arith, e, below-8 n l, given n l .program, free-below-8) in
+        let c : placeIn n ≡ freePlace = omega (arith, e, below-8 n l, given n l .program, free-below-8) in
         let s : lookup t n ≡ ticketAt t p q freePlace
         = ticket-at-place n ∙ ap (λ (x : ℕ). ticketAt t x (n .program) (placeIn n)) a ∙ ap (λ (x : ℕ). ticketAt t p x (placeIn n)) b ∙ ap (ticketAt t p q) c in
         let f : not (isLive (ticketAt t p q freePlace .kind)) ≡ true = find-passes isFree (ticketsOf t p q) free free-low in

@@ -63,7 +63,7 @@ numberOf givingBack = 4
 numberOf reading = 5
 numberOf writing = 6
 
-pub operation-number : (op : ℕ) → 1 ≤ op → op ≤ 6 → numberOf (operationOf op) ≡ op
+operation-number : (op : ℕ) → 1 ≤ op → op ≤ 6 → numberOf (operationOf op) ≡ op
 unfolding numberOf operationOf
 operation-number zero a b = absurd (omega arith)
 operation-number (suc zero) a b = refl

@@ -36,7 +36,7 @@ pub record Closure (tickets : Name → Ticket) (entries : Name → Entry) (gone 
   pub both : (n : Name) → isTaken (tickets n .kind) ≡ true → cut n ≡ true → gone n ≡ true
 
 -- the recall of a child is on the child's own pad
-pub recalled-near : (tickets : Name → Ticket) → NoFarChild tickets → (n : Name) → isChild (tickets n .kind) ≡ true → (r : Recalled tickets n)
+recalled-near : (tickets : Name → Ticket) → NoFarChild tickets → (n : Name) → isChild (tickets n .kind) ≡ true → (r : Recalled tickets n)
     → tickets (r .by) .other .pad ≡ r .by .pad
 recalled-near tickets noFar n c r = go (case (eqb (tickets (r .by) .other .pad) (r .by .pad)))
   where

@@ -15,7 +15,7 @@ use Rattle.tables.specs.Lookup.{lastOf, lookup, entryOf}
 use Rattle.tables.specs.Chains.{ownName, parentOf, atOrUnder, chainHead, atOrBelow}
 use Rattle.tables.specs.Order.{underStore}
 use Rattle.tables.specs.Change.{dropTickets, dropEntry, dropEntries}
-use Rattle.tables.proofs.KindLaws.{live-head, child-head, recall-head, child-recall, grant-recall, taken-head}
+use Rattle.tables.proofs.KindLaws.{child-head, recall-head, child-recall, grant-recall, taken-head}
 use Rattle.tables.proofs.NameLaws.{eqName-true, eqName-refl, eqName-false}
 use Rattle.machine.specs.declared.Request.{Request}
 use Rattle.machine.specs.State.{askedName, asked}
@@ -24,12 +24,12 @@ use Rattle.machine.specs.GiveBack.{giveBackTables}
 use Rattle.machine.specs.Step.{dropHead}
 use Rattle.preservation.specs.Rules.{FarOk, Rules}
 use Rattle.preservation.specs.InOrder.{entryKeys, Invariant}
-use Rattle.preservation.proofs.RuleFacts.{taken-root, live-named, parent-grant}
+use Rattle.preservation.proofs.RuleFacts.{taken-root, parent-grant}
 use Rattle.preservation.proofs.AfterChange.{entryLaws, removed, lookup-removed, entry-removed, last-removed, shape-removed}
 use Rattle.preservation.proofs.Removal.{Closure, rules-after-removal, no-far-child-after-removal}
-use Rattle.preservation.proofs.ChainSteps.{entry-grant, at-head, falls, at-root, entry-falls, target-step, recall-step, pair-head, head-is-dock, dock-head}
+use Rattle.preservation.proofs.ChainSteps.{entry-grant, at-head, falls, at-root, entry-falls, target-step, recall-step, pair-head, head-is-dock, dock-head, dock-named}
 
-pub invariant-removed : (t : Tables) → Invariant t → (gone cut : Name → Bool) → Closure (lookup t) (entryOf t) gone cut → Invariant (removed gone cut t)
+invariant-removed : (t : Tables) → Invariant t → (gone cut : Name → Bool) → Closure (lookup t) (entryOf t) gone cut → Invariant (removed gone cut t)
 invariant-removed t ok gone cut closure = record {
   order = record {
     shape = shape-removed gone cut t (ok .order .shape);
@@ -147,9 +147,7 @@ module _ (t : Tables) (ok : Invariant t) where
             let f : FarOk (lookup t (ownName me (lookup t me))) (entryOf t (lookup t me .other))
             = ok .order .rules .farEntry me recall other (ap (λ (m : Name). entryOf t m .live) (sym e) ∙ l) in
             let g : isGrant (lookup t (ownName me (lookup t me)) .kind) ≡ true = ok .order .rules .recall me recall .grant in
-            let named : isNone (lookup t (ownName me (lookup t me)) .dock) ≡ false
-            = live-named (lookup t) (entryOf t) (lastOf t) (ok .order .rules) (lookup t (ownName me (lookup t me)) .dock)
-            (live-head (lookup t (lookup t (ownName me (lookup t me)) .dock) .kind) (dock-head t (ok .order) (ownName me (lookup t me)) g)) in
+            let named : isNone (lookup t (ownName me (lookup t me)) .dock) ≡ false = dock-named t (ok .order) (ownName me (lookup t me)) g in
             contradiction z (ap (λ (m : Name). underStore (entryOf t m)) e ∙ ap isNone (f .parent) ∙ named)
 
 -- ---- the operations

@@ -1,8 +1,8 @@
 -- The tests of sheets decide what they say: runs within and apart, T2, and the lowest free run. Each has a law from the test to the statement
 -- (of) and one back (test). Then how containment goes on.
-use Prim.Native.Nat.{ℕ, _+_, _≤_}
+use Prim.Native.Nat.{ℕ, _+_, _≤_, _<_}
 use mathlib.Core.Path.{_≡_}
-use mathlib.Core.Logic.{inl, inr}
+use mathlib.Core.Logic.{inl, inr, _⊎_}
 use mathlib.Core.Bool.{true}
 use mathlib.Core.List.{List}
 use native.Mathlib.Omega.{arith}
@@ -93,6 +93,15 @@ apart-test f c g d (inr h) = or-right (leb (f + c) g) (le-leb (g + d) f h)
 pub apart-sym : (f c g d : ℕ) → Apart f c g d → Apart g d f c
 apart-sym f c g d (inl h) = inr h
 apart-sym f c g d (inr h) = inl h
+
+-- two runs that share no sheet have no sheet in common, and a sheet of one lies beside the other
+pub apart-ne : (f c h d a b : ℕ) → Apart f c h d → a < c → b < d → f + a ≡ h + b → ⊥
+apart-ne f c h d a b (inl x) y z e = omega arith
+apart-ne f c h d a b (inr x) y z e = omega arith
+
+pub beside : (f c h d a : ℕ) → Apart f c h d → a < d → (h + a < f) ⊎ (f + c ≤ h + a)
+beside f c h d a (inl x) y = inr (omega arith)
+beside f c h d a (inr x) y = inl (omega arith)
 
 pub outside-of : (f c : ℕ) (e : Entry) → outside f c e ≡ true → e .live ≡ true → Apart f c (e .first) (e .count)
 unfolding outside

@@ -78,7 +78,7 @@ unfolding step serve refusal _when_else_ lengthsOk
 step-is-serve s r ok a b = rw (eq-eqb (length (s .store)) 16384 a, eq-eqb (length (s .sheet)) 64 b, order-passes-test (s .tables) ok)
 
 module _ (s : State) (r : Request) (ok : DockOk s) (buf : length (s .sheet) ≡ 64) where
-  pub is-serve : step s r ≡ serve s r
+  is-serve : step s r ≡ serve s r
   is-serve = step-is-serve s r (ok .tables .order) (ok .store) buf
 
   pub serve-keeps-dock : DockOk (serve s r .state)

@@ -1,9 +1,10 @@
 -- Laws of the kinds of tickets. A law of the form "what passes this test passes that one", or fails it, is computed at the five kinds; the
 -- others go by cases.
-use mathlib.Core.Path.{_≡_, refl, sym, _∙_}
+use mathlib.Core.Path.{_≡_, refl, sym}
 use mathlib.Core.Logic.{_⊎_, inl, inr}
 use mathlib.Core.Bool.{Bool, true, false, not, _&&_, _||_}
-use Rattle.lists.proofs.Tests.{no-true, and-l, and-r}
+use borrow.Author.Tests.{not-true}
+use Rattle.lists.proofs.Tests.{no-true, and-l, and-r, contradiction}
 use Rattle.tables.specs.declared.{Name.Name, Kind.Kind, Ticket.Ticket}
 use Rattle.tables.specs.declared.Kind.the-variants.{Free, Taken, Received, Child, Recall}
 use Rattle.tables.specs.Kinds.{isLive, isGrant, isHead, isTaken, isReceived, isChild, isRecall}
@@ -29,13 +30,9 @@ then false b e h = no-true h
 implied : (f g : Kind → Bool) → everyKind (λ k. not (f k) || g k) ≡ true → (k : Kind) → f k ≡ true → g k ≡ true
 implied f g e k h = then (f k) (g k) (at-kind (λ k. not (f k) || g k) e k) h
 
--- what passes f fails g
-excluded : (f g : Kind → Bool) → everyKind (λ k. not (f k) || not (g k)) ≡ true → (k : Kind) → f k ≡ true → g k ≡ false
-excluded f g e k h = negative (g k) (then (f k) (not (g k)) (at-kind (λ k. not (f k) || not (g k)) e k) h)
-  where
-    negative : (b : Bool) → not b ≡ true → b ≡ false
-    negative true e = sym e
-    negative false e = refl
+-- what passes f does not pass g
+excluded : (f g : Kind → Bool) → everyKind (λ k. not (f k) || not (g k)) ≡ true → (k : Kind) → f k ≡ true → g k ≡ true → ⊥
+excluded f g e k h p = contradiction p (not-true (g k) (then (f k) (not (g k)) (at-kind (λ k. not (f k) || not (g k)) e k) h))
 
 -- ---- live tickets
 pub live-grant : (k : Kind) → isGrant k ≡ true → isLive k ≡ true
@@ -75,26 +72,20 @@ grant-of Child l h = refl
 grant-of Recall l h = sym h
 
 -- ---- what a ticket is not
-pub child-no-head : (k : Kind) → isChild k ≡ true → isHead k ≡ false
-child-no-head = excluded isChild isHead refl
-
-pub recall-no-head : (k : Kind) → isRecall k ≡ true → isHead k ≡ false
-recall-no-head = excluded isRecall isHead refl
-
 pub child-head : (k : Kind) → isChild k ≡ true → isHead k ≡ true → ⊥
-child-head k c h = no-true (sym (child-no-head k c) ∙ h)
+child-head = excluded isChild isHead refl
 
 pub recall-head : (k : Kind) → isRecall k ≡ true → isHead k ≡ true → ⊥
-recall-head k c h = no-true (sym (recall-no-head k c) ∙ h)
+recall-head = excluded isRecall isHead refl
 
 pub child-recall : (k : Kind) → isChild k ≡ true → isRecall k ≡ true → ⊥
-child-recall k c h = no-true (sym (excluded isChild isRecall refl k c) ∙ h)
+child-recall = excluded isChild isRecall refl
 
 pub received-taken : (k : Kind) → isReceived k ≡ true → isTaken k ≡ true → ⊥
-received-taken k c h = no-true (sym (excluded isReceived isTaken refl k c) ∙ h)
+received-taken = excluded isReceived isTaken refl
 
 pub grant-recall : (k : Kind) → isGrant k ≡ true → isRecall k ≡ true → ⊥
-grant-recall k c h = no-true (sym (excluded isGrant isRecall refl k c) ∙ h)
+grant-recall = excluded isGrant isRecall refl
 
 -- ---- a grant is a head or a child
 pub grant-sort : (k : Kind) → isGrant k ≡ true → (isHead k ≡ true) ⊎ (isChild k ≡ true)
