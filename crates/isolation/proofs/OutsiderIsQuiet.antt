@@ -21,6 +21,8 @@ use Rattle.tables.specs.Chains.{atOrUnder, chainHead, atOrBelow}
 use Rattle.tables.specs.Change.{dropTicket, dropInProgram, dropTickets, dropEntries}
 use Rattle.tables.specs.Sheets.{lowestRun}
 use Rattle.tables.proofs.NameLaws.{eqName-false, program-ne}
+use Rattle.tables.proofs.Keys.{ticketKeys, ticketLaws}
+use Rattle.tables.proofs.ByPlace.{ticketAt}
 use Rattle.machine.specs.declared.Request.{Request}
 use Rattle.machine.specs.State.{State, accepted, refused, withTables, clearSheets, askedName, asked}
 use Rattle.machine.specs.Operation.{Operation, taking, passing, recalling, givingBack, reading, writing, operationOf, usedBy, fieldsOk}
@@ -33,9 +35,9 @@ use Rattle.machine.specs.Step.{ownRefusal, requestRefusal, afterOwn, dropHead, 
 use Rattle.machine.specs.Sequence.{Group, fromGroup, crosses}
 use Rattle.machine.specs.Isolation.{owns, Unlinked}
 use Rattle.preservation.specs.Rules.{Inside, Apart, EntryOk}
-use Rattle.preservation.specs.InOrder.{ticketAt, ticketKeys, InOrder, DockOk}
+use Rattle.preservation.specs.InOrder.{InOrder, DockOk}
 use Rattle.preservation.proofs.SheetTests.{apart-sym, run-fits, beside}
-use Rattle.preservation.proofs.AfterChange.{ticketLaws, removed, dropped-program, entry-removed, no-entry-there}
+use Rattle.preservation.proofs.AfterChange.{removed, dropped-program, entry-removed, no-entry-there}
 use Rattle.preservation.proofs.ChainSteps.{head-is-dock, within-entry, entry-fits}
 use Rattle.preservation.proofs.RemovingOperations.{drop-no-entry}
 use Rattle.preservation.proofs.Taking.{MayTake, TakeEffect, take-effect}

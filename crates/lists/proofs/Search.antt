@@ -57,6 +57,15 @@ module _ {A : Type 0} where
       go (pass h) ih = rw (first-here f x xs h) (omega arith)
       go (fail h) ih = let b : firstIndex f xs < length xs = ih (rw h at e) in rw (first-later f x xs h) (omega arith)
 
+  pub first-some : (f : A → Bool) (l : List A) → firstIndex f l < length l → some f l ≡ true
+  unfolding some
+  first-some f [] h = absurd (not-suc-le-zero h)
+  first-some f (x ∷ xs) h = go (case (f x)) (first-some f xs)
+    where
+      go : Case (f x) → (firstIndex f xs < length xs → some f xs ≡ true) → some f (x ∷ xs) ≡ true
+      go (pass e) ih = rw e
+      go (fail e) ih = rw e (ih (le-of-suc-le-suc (rw (first-later f x xs e) at h)))
+
   -- a test that passes at nothing in the list
   pub none-found : (f : A → Bool) (l : List A) (d : A) → f d ≡ false → f (find f l d) ≡ false → find f l d ≡ d
   none-found f [] d h p = refl
@@ -65,6 +74,12 @@ module _ {A : Type 0} where
       go : Case (f x) → (f (find f xs d) ≡ false → find f xs d ≡ d) → find f (x ∷ xs) d ≡ d
       go (pass e) ih = let z : _≡_ {A = Bool} true false = sym e ∙ ap f (sym (find-here f x xs d e)) ∙ p in cc
       go (fail e) ih = find-later f x xs d e ∙ ih (ap f (sym (find-later f x xs d e)) ∙ p)
+
+  -- tests that agree find alike
+  pub first-same : (f g : A → Bool) → ((x : A) → f x ≡ g x) → (l : List A) → firstIndex f l ≡ firstIndex g l
+  unfolding firstIndex
+  first-same f g e [] = refl
+  first-same f g e (x ∷ xs) = λ i. cond (e x i) 0 (suc (first-same f g e xs i))
 
   -- k put in the first place that passes g; no element passes both g and f, and k passes f: k is found, if nothing was
   module _ (f g : A → Bool) (k d : A) (apart : (x : A) → g x ≡ true → f x ≡ false) where
@@ -116,3 +131,8 @@ least-passes f (suc k) s h = go (case (f s)) (least-passes f k (suc s))
     go (fail e) ih =
         let b : least f k (suc s) < suc k + s = rw e at h in
         rw e (ih (omega arith))
+
+pub first-map : {A B : Type 0} (f : B → Bool) (g : A → B) (l : List A) → firstIndex f (map g l) ≡ firstIndex (λ x. f (g x)) l
+unfolding firstIndex
+first-map f g [] = refl
+first-map f g (x ∷ xs) = ap (λ (i : ℕ). cond (f (g x)) 0 (suc i)) (first-map f g xs)

@@ -1,8 +1,11 @@
 -- Laws of tests that are Bools: the two cases of a test with their equation, and how a test of several parts is put together and taken
 -- apart. Proofs work with equations `b ≡ true`.
+use Prim.Native.Nat.{ℕ, _≤_}
 use mathlib.Core.Path.{_≡_, refl, sym, _∙_, subst}
 use mathlib.Core.Bool.{Bool, true, false, not, _&&_, _||_, cond}
-use Rattle.lists.specs.Tests.{implies}
+use lib.Dec.{leb}
+use borrow.Author.Tests.{leb-true, le-leb}
+use Rattle.lists.specs.Tests.{implies, between}
 
 -- a test's two cases, with the equation
 pub data Case (b : Bool) : Type 0 where
@@ -79,3 +82,17 @@ pub implies-elim : (a b : Bool) → implies a b ≡ true → a ≡ true → b �
 unfolding implies
 implies-elim true b e h = e
 implies-elim false b e h = no-true h
+
+-- ---- between two bounds
+module _ (low high x : ℕ) where
+  pub between-low : between low high x ≡ true → low ≤ x
+  unfolding between
+  between-low e = leb-true low x (and-l (leb low x) (leb x high) e)
+
+  pub between-high : between low high x ≡ true → x ≤ high
+  unfolding between
+  between-high e = leb-true x high (and-r (leb low x) (leb x high) e)
+
+  pub between-test : low ≤ x → x ≤ high → between low high x ≡ true
+  unfolding between
+  between-test p q = and-intro (le-leb low x p) (le-leb x high q)

@@ -9,33 +9,19 @@ use native.Mathlib.Omega.{arith}
 use lib.Dec.{eqb}
 use lib.ListN.{length, getD, set, length-set}
 use lib.Seq.{getD-set-same, getD-set-other}
-use borrow.Author.Tests.{eqb-true, eqb-false, eq-eqb}
+use borrow.Author.Tests.{eqb-true, eqb-false}
 use Rattle.lists.specs.Lists.{firstIndex, some, mapAt}
 use Rattle.lists.proofs.Tests.{Case, pass, fail, case}
 use Rattle.lists.proofs.Everywhere.{getD-mapAt, length-mapAt}
-use Rattle.lists.proofs.Keyed.{Lawful, byKey, Distinct, nothing-found, put-same, put-other, put-length, put-distinct, dropped-length, drop-found, drop-distinct}
+use Rattle.lists.proofs.Keyed.{byKey, Distinct, nothing-found, put-same, put-other, put-length, put-distinct, dropped-length, drop-found, drop-distinct}
 use Rattle.tables.specs.declared.{Name.Name, Ticket.Ticket, Program.Program, Pad.Pad, Entry.Entry, Tables.Tables}
 use Rattle.tables.specs.Kinds.{isLive}
 use Rattle.tables.specs.Names.{nameOf, sameProgram, free, noEntry, noProgram, noPad}
 use Rattle.tables.specs.Lookup.{Sized, padAt, programAt, ticketsOf, lastOf, hasNumber, ticketIn, lookup, isNamed, entryIn, entryOf}
 use Rattle.tables.specs.Change.{isFree, hasPlace, withTicket, withProgram, give, isSpare, putEntry, dropTicket, dropInProgram, dropInPad, dropTickets, dropEntry, dropEntries}
-use Rattle.tables.proofs.NameLaws.{name-eq, eqName-true, eqName-refl, program-same, program-apart}
-use Rattle.preservation.specs.InOrder.{ticketKeys, entryKeys, Shape}
-
-pub ticketLaws : Lawful ticketKeys
-ticketLaws = record { sameTrue = eqb-true; sameRefl = λ a. eq-eqb a a refl; dead = refl }
-
-pub entryLaws : Lawful entryKeys
-entryLaws = record { sameTrue = eqName-true; sameRefl = eqName-refl; dead = refl }
-
--- ---- what a name finds is the keyed list's element of that key
-pub lookup-keyed : (t : Tables) (n : Name) → lookup t n ≡ byKey ticketKeys (ticketsOf t (n .pad) (n .program)) (n .number)
-unfolding lookup ticketIn hasNumber
-lookup-keyed t n = refl
-
-pub entry-keyed : (t : Tables) (n : Name) → entryOf t n ≡ byKey entryKeys (t .entries) n
-unfolding entryIn isNamed
-entry-keyed t n = refl
+use Rattle.tables.proofs.NameLaws.{name-eq, program-same, program-apart}
+use Rattle.tables.proofs.Keys.{ticketKeys, entryKeys, ticketLaws, entryLaws, lookup-keyed}
+use Rattle.preservation.specs.InOrder.{Shape}
 
 -- a name without a live entry finds the free record
 pub no-entry-there : (t : Tables) (n : Name) → entryOf t n .live ≡ false → entryOf t n ≡ noEntry

@@ -13,10 +13,10 @@ use Rattle.tables.specs.Kinds.{isLive}
 use Rattle.tables.specs.Names.{free, noEntry, noProgram, noPad, emptyTables}
 use Rattle.tables.specs.Lookup.{Sized, padAt, programAt, lastOf, hasNumber, ticketIn, lookup, isNamed, entryIn, entryOf}
 use Rattle.tables.proofs.KindLaws.{live-grant, live-child, live-recall, live-head, live-taken}
+use Rattle.tables.proofs.ByPlace.{ticketAt, entryAt, InRange, name-in-range}
 use Rattle.machine.specs.Empty.{emptied, emptyDock}
 use Rattle.preservation.specs.Rules.{Rules}
-use Rattle.preservation.specs.InOrder.{ticketAt, entryAt, Shape, Invariant}
-use Rattle.preservation.proofs.TestsByName.{InRange, name-in-range}
+use Rattle.preservation.specs.InOrder.{Shape, Invariant}
 
 abbrev emptyProgram : Program
 emptyProgram = record { tickets = replicate 8 free; last = 0 }

@@ -8,7 +8,7 @@ use lib.ListN.{length}
 use borrow.Author.Tests.{eqb-true, eqb-false, eq-eqb, ne-eqb, not-true}
 use Rattle.lists.specs.Tests.{implies, between}
 use Rattle.lists.specs.Lists.{all}
-use Rattle.lists.proofs.Tests.{Case, pass, fail, case, and-l, and-r, and-intro, not-test, implies-intro}
+use Rattle.lists.proofs.Tests.{Case, pass, fail, case, and-l, and-r, and-intro, not-test, implies-intro, between-test}
 use Rattle.lists.proofs.Everywhere.{all-intro}
 use Rattle.lists.proofs.Keyed.{distinct-test, keys-no-two}
 use Rattle.rights.specs.declared.Rights.{Rights}
@@ -21,11 +21,12 @@ use Rattle.tables.specs.Sheets.{apart}
 use Rattle.tables.specs.Order.{someTicket, numbersOk, t1, spanOk, t2, parentOk, childOk, t3, t4, entryNamesOk, underStore, grantOk, parentEntryOk, entryOk, rootsOk, t5, recallParentOk, isChildOf, farTargetOk, targetOk, recallOk, t6, inOrder, noFarChild}
 use Rattle.tables.proofs.KindLaws.{live-grant, live-child, live-recall, live-head, live-taken, child-grant}
 use Rattle.tables.proofs.NameLaws.{eqName-true, eqName-test, program-possible}
+use Rattle.tables.proofs.Keys.{ticketKeys, entryKeys, ticketLaws, entryLaws}
+use Rattle.tables.proofs.ByPlace.{ticketAt}
 use Rattle.preservation.specs.Rules.{Given, ChildOk, RecallOk, NearOk, FarOk, Recalled, EntryOk, UnderOk, NoFarChild}
-use Rattle.preservation.specs.InOrder.{ticketAt, ticketKeys, entryKeys, InOrder}
-use Rattle.preservation.proofs.SheetTests.{between-test, inside-test, span-test, apart-test}
+use Rattle.preservation.specs.InOrder.{InOrder}
+use Rattle.preservation.proofs.SheetTests.{inside-test, span-test, apart-test}
 use Rattle.preservation.proofs.Walks.{end-good}
-use Rattle.preservation.proofs.AfterChange.{ticketLaws, entryLaws}
 use Rattle.preservation.proofs.Places.{entry-chain-short}
 use Rattle.preservation.proofs.ChainSteps.{head-is-dock, dock-head}
 use Rattle.preservation.proofs.TestsByName.{at-name, every-ticket-intro, every-entry-intro, some-ticket-intro}

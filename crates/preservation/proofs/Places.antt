@@ -22,12 +22,13 @@ use Rattle.tables.specs.Chains.{parentOf, entryParent}
 use Rattle.tables.specs.Change.{isFree, hasPlace, isSpare}
 use Rattle.tables.proofs.KindLaws.{live-head, has-parent}
 use Rattle.tables.proofs.NameLaws.{name-eq}
+use Rattle.tables.proofs.Keys.{entryKeys, entryLaws, entry-keyed}
+use Rattle.tables.proofs.ByPlace.{ticketAt, entryAt, place-low}
 use Rattle.preservation.specs.Rules.{Given, Ends}
-use Rattle.preservation.specs.InOrder.{ticketAt, entryAt, entryKeys, InOrder}
+use Rattle.preservation.specs.InOrder.{InOrder}
 use Rattle.preservation.proofs.Walks.{chain-length}
 use Rattle.preservation.proofs.RuleFacts.{entry-head, child-up, recall-up, parent-live}
-use Rattle.preservation.proofs.AfterChange.{entryLaws, entry-keyed}
-use Rattle.preservation.proofs.TestsByName.{place-low, at-entry-name}
+use Rattle.preservation.proofs.TestsByName.{at-entry-name}
 
 module _ (t : Tables) (ok : InOrder t) where
   -- ---- the place of a name's ticket: in its program, on its pad, on all pads
@@ -79,7 +80,7 @@ module _ (t : Tables) (ok : InOrder t) where
     all-once e = pad-once (omega (arith, e, pad-low n l, pad-low m k)) (omega (arith, e, pad-low n l, pad-low m k))
 
   -- ---- chains on a pad
-  parent-pad : (n : Name) → isNone (parentOf (lookup t) n) ≡ false → parentOf (lookup t) n .pad ≡ n .pad
+  pub parent-pad : (n : Name) → isNone (parentOf (lookup t) n) ≡ false → parentOf (lookup t) n .pad ≡ n .pad
   parent-pad n z = go (has-parent (lookup t n .kind) n (lookup t n) z)
     where
       go : (isChild (lookup t n .kind) ≡ true) ⊎ (isRecall (lookup t n .kind) ≡ true) → parentOf (lookup t) n .pad ≡ n .pad

@@ -7,7 +7,7 @@ use native.Mathlib.Omega.{arith}
 use lib.Dec.{eqb, ltb, leb}
 use borrow.Author.Tests.{leb-true, leb-false, ltb-false, ne-eqb, not-false, not-true}
 use Rattle.lists.specs.Tests.{between}
-use Rattle.lists.proofs.Tests.{and-l, and-r, or-false-l, or-false-r}
+use Rattle.lists.proofs.Tests.{and-l, and-r, or-false-l, or-false-r, between-low, between-high}
 use Rattle.rights.specs.Rules.{rightsOf, within, canPass}
 use Rattle.tables.specs.declared.Tables.{Tables}
 use Rattle.tables.specs.Kinds.{isLive, isGrant, isTaken, isRecall}
@@ -29,7 +29,6 @@ use Rattle.machine.specs.GiveBack.{giveBackRefusal}
 use Rattle.machine.specs.Access.{sheetOf, accessRefusal}
 use Rattle.machine.specs.Step.{ownRefusal, requestRefusal}
 use Rattle.machine.proofs.RefusalLaws.{when-past, when-here}
-use Rattle.preservation.proofs.SheetTests.{between-low, between-high}
 use Rattle.preservation.proofs.Taking.{MayTake}
 use Rattle.preservation.proofs.Passing.{MayPass}
 

@@ -17,15 +17,16 @@ use Rattle.tables.specs.Order.{underStore}
 use Rattle.tables.specs.Change.{dropTickets, dropEntry, dropEntries}
 use Rattle.tables.proofs.KindLaws.{child-head, recall-head, child-recall, grant-recall, taken-head}
 use Rattle.tables.proofs.NameLaws.{eqName-true, eqName-refl, eqName-false}
+use Rattle.tables.proofs.Keys.{entryKeys, entryLaws}
 use Rattle.machine.specs.declared.Request.{Request}
 use Rattle.machine.specs.State.{askedName, asked}
 use Rattle.machine.specs.Recall.{recallTables}
 use Rattle.machine.specs.GiveBack.{giveBackTables}
 use Rattle.machine.specs.Step.{dropHead}
 use Rattle.preservation.specs.Rules.{FarOk, Rules}
-use Rattle.preservation.specs.InOrder.{entryKeys, Invariant}
+use Rattle.preservation.specs.InOrder.{Invariant}
 use Rattle.preservation.proofs.RuleFacts.{taken-root, parent-grant}
-use Rattle.preservation.proofs.AfterChange.{entryLaws, removed, lookup-removed, entry-removed, last-removed, shape-removed}
+use Rattle.preservation.proofs.AfterChange.{removed, lookup-removed, entry-removed, last-removed, shape-removed}
 use Rattle.preservation.proofs.Removal.{Closure, rules-after-removal, no-far-child-after-removal}
 use Rattle.preservation.proofs.ChainSteps.{entry-grant, at-head, falls, at-root, entry-falls, target-step, recall-step, pair-head, head-is-dock, dock-head, dock-named}
 

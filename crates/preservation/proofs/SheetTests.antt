@@ -10,7 +10,7 @@ use lib.Dec.{leb}
 use borrow.Author.Tests.{leb-true, le-leb, ltb-true}
 use Rattle.lists.specs.Tests.{between}
 use Rattle.lists.specs.Lists.{all}
-use Rattle.lists.proofs.Tests.{Case, pass, fail, case, and-l, and-r, and-intro, or-right}
+use Rattle.lists.proofs.Tests.{Case, pass, fail, case, and-l, and-r, and-intro, or-right, between-low, between-high, between-test}
 use Rattle.lists.proofs.Search.{least-passes}
 use Rattle.rights.specs.declared.Rights.{Rights}
 use Rattle.rights.specs.Rules.{within}
@@ -19,19 +19,6 @@ use Rattle.tables.specs.declared.{Ticket.Ticket, Entry.Entry}
 use Rattle.tables.specs.Sheets.{apart, inside, outside, isFreeRun, lowestRun, hasRun}
 use Rattle.tables.specs.Order.{spanOk}
 use Rattle.preservation.specs.Rules.{Span, Inside, Apart}
-
--- ---- between two bounds
-pub between-low : (low high x : ℕ) → between low high x ≡ true → low ≤ x
-unfolding between
-between-low low high x e = leb-true low x (and-l (leb low x) (leb x high) e)
-
-pub between-high : (low high x : ℕ) → between low high x ≡ true → x ≤ high
-unfolding between
-between-high low high x e = leb-true x high (and-r (leb low x) (leb x high) e)
-
-pub between-test : (low high x : ℕ) → low ≤ x → x ≤ high → between low high x ≡ true
-unfolding between
-between-test low high x p q = and-intro (le-leb low x p) (le-leb x high q)
 
 -- ---- T2
 pub span-of : (k : Ticket) → spanOk k ≡ true → Span (k .first) (k .count) (k .rights)

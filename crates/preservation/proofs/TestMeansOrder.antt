@@ -9,7 +9,7 @@ use lib.ListN.{length}
 use borrow.Author.Tests.{eqb-true, eqb-false, eq-eqb, ne-eqb, not-true, not-false}
 use Rattle.lists.specs.Tests.{implies, between}
 use Rattle.lists.specs.Lists.{firstIndex, all, noTwo}
-use Rattle.lists.proofs.Tests.{and-l, and-r, and-intro, not-test, implies-elim}
+use Rattle.lists.proofs.Tests.{and-l, and-r, and-intro, not-test, implies-elim, between-low, between-high}
 use Rattle.lists.proofs.Everywhere.{all-elim}
 use Rattle.lists.proofs.Keyed.{Distinct, distinct-intro, no-two-keys}
 use Rattle.rights.specs.Rules.{canPass}
@@ -23,13 +23,14 @@ use Rattle.tables.specs.Sheets.{apart, inside}
 use Rattle.tables.specs.Order.{everyTicket, someTicket, everyEntry, numbersOk, t1, spanOk, t2, parentOk, childOk, t3, t4, entryNamesOk, underStore, grantOk, parentEntryOk, entryOk, rootsOk, t5, recallParentOk, isChildOf, farTargetOk, targetOk, recallOk, t6, inOrder, noFarChild}
 use Rattle.tables.proofs.KindLaws.{live-grant, live-child, live-recall, live-head, live-taken}
 use Rattle.tables.proofs.NameLaws.{eqName-true, eqName-test, is-program}
+use Rattle.tables.proofs.Keys.{ticketKeys, entryKeys, ticketLaws, entryLaws}
+use Rattle.tables.proofs.ByPlace.{ticketAt, place-low, found-number, name-in-range, every-entry-elim, found-name}
 use Rattle.preservation.specs.Rules.{Apart, Given, ChildOk, RecallOk, NearOk, FarOk, Recalled, EntryOk, UnderOk, NoFarChild}
-use Rattle.preservation.specs.InOrder.{ticketAt, ticketKeys, entryKeys, Shape, InOrder}
-use Rattle.preservation.proofs.SheetTests.{between-low, between-high, inside-of, span-of, apart-of, apart-sym}
+use Rattle.preservation.specs.InOrder.{Shape, InOrder}
+use Rattle.preservation.proofs.SheetTests.{inside-of, span-of, apart-of, apart-sym}
 use Rattle.preservation.proofs.Walks.{ends-of}
 use Rattle.preservation.proofs.RuleFacts.{entry-head}
-use Rattle.preservation.proofs.AfterChange.{ticketLaws, entryLaws}
-use Rattle.preservation.proofs.TestsByName.{place-low, found-number, name-in-range, every-ticket-elim, every-entry-elim, found-name, SomeName, some-ticket-elim}
+use Rattle.preservation.proofs.TestsByName.{every-ticket-elim, SomeName, some-ticket-elim}
 
 -- ---- the parts of a rule, each from its test
 parent-of : (n : Name) (k p : Ticket) → parentOk n k p ≡ true → ChildOk n k p

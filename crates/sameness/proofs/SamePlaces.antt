@@ -17,9 +17,10 @@ use Rattle.tables.specs.Change.{isFree, hasPlace}
 use Rattle.tables.specs.Sheets.{apart, outside, isFreeRun, lowestRun, hasRun}
 use Rattle.tables.specs.Order.{everyEntry}
 use Rattle.tables.specs.Same.{SameTables}
-use Rattle.preservation.specs.InOrder.{ticketKeys, InOrder}
-use Rattle.preservation.proofs.AfterChange.{ticketLaws, lookup-keyed}
-use Rattle.preservation.proofs.TestsByName.{every-entry-elim, every-entry-intro}
+use Rattle.tables.proofs.Keys.{ticketKeys, ticketLaws, lookup-keyed}
+use Rattle.tables.proofs.ByPlace.{every-entry-elim}
+use Rattle.preservation.specs.InOrder.{InOrder}
+use Rattle.preservation.proofs.TestsByName.{every-entry-intro}
 use Rattle.sameness.proofs.SameIsEquivalence.{same-sym}
 use Rattle.sameness.proofs.SaidFacts.{same-kind, same-live, same-entry-first, same-entry-count}
 
