@@ -1,0 +1,62 @@
+// Chains of parents by places: `up[i]` is the place of i's parent, and a number that is no place says that i has none. Tickets of a
+// pad and entries of the dock are walked alike.
+ghost use mathlib.Core.Path.{_≡_};
+ghost use Prim.Native.Nat.{_<_};
+ghost use lib.ListN.{length};
+ghost use lib.Dec.{eqb};
+ghost use Rattle.lists.specs.Lists.{firstIndex};
+ghost use Rattle.chains.specs.Walk.{endFrom, leadsTo};
+
+fn wide(x: u16) -> usize
+    ensures { λ r. ⌜ r ≡ x ⌝ }
+{
+    x as usize
+}
+
+// The end of the chain from a place, which has no parent: the recursive walk from a child to the head of its chain, with the places
+// left falling. No place where those do not suffice.
+pub fn end_from(up: &[u16], at: usize, left: usize) -> usize
+    requires { ⌜ at < length (now up) ⌝ }
+    ensures { λ r. ⌜ r ≡ endFrom left (now (up .entry)) at ⌝ }
+{
+    if left == 0 {
+        return up.len();
+    }
+    let next = wide(up[at]);
+    if up.len() <= next {
+        return at;
+    }
+    end_from(up, next, left - 1)
+}
+
+// Is the place x, or does its chain come to x?
+pub fn leads_to(up: &[u16], at: usize, x: usize, left: usize) -> bool
+    requires { ⌜ at < length (now up) ⌝ }
+    ensures { λ r. ⌜ r ≡ leadsTo left (now (up .entry)) x at ⌝ }
+{
+    if left == 0 {
+        return false;
+    }
+    if at == x {
+        return true;
+    }
+    let next = wide(up[at]);
+    if up.len() <= next {
+        return false;
+    }
+    leads_to(up, next, x, left - 1)
+}
+
+// The first place of a number, or the length where it has none.
+pub fn index_of(numbers: &[u16], number: u16) -> usize
+    ensures { λ r. ⌜ r ≡ firstIndex (λ x. eqb x number) (now (numbers .entry)) ⌝ }
+{
+    let mut i: usize = 0;
+    while i < numbers.len() {
+        if numbers[i] == number {
+            return i;
+        }
+        i = i + 1;
+    }
+    i
+}

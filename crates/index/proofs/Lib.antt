@@ -1,0 +1,3 @@
+pub mod Laying
+mod PlaceSteps
+pub mod Laws

@@ -1,0 +1,68 @@
+-- The search stands at a place: what is free is found from there on.
+use Prim.Native.Nat.{_+_, _-_, _≤_}
+use mathlib.Core.Path.{_≡_, sym, _∙_}
+use native.Mathlib.Omega.{arith}
+use borrow.Author.Needs.{needs}
+use lib.ListN.{drop}
+use Rattle.lists.specs.Lists.{firstIndex}
+use Rattle.lists.proofs.Loops.{first-miss, first-hit, first-end}
+use Rattle.tables.specs.Change.{isFree}
+use Rattle.tables.proofs.Fits.{program-fits}
+use Rattle.pads.proofs.free_place.Statement.{statement}
+use Rattle.pads.proofs.free_place.Tie as tie
+
+abbrev Inv-loop : tie.InvT-loop
+Inv-loop p i₀ i = (i ≤ 8) × (firstIndex isFree (p .tickets) ≡ i + firstIndex isFree (drop i (p .tickets)))
+
+abbrev μ-loop : tie.MeasureT-loop
+μ-loop p i₀ i = 8 - i
+
+loop-holds : tie.Need-loop-holds Inv-loop μ-loop
+loop-holds c = omega arith
+
+mul-k : tie.Need-mul-k Inv-loop μ-loop
+mul-k c = search needs
+
+element-copy-out-k : tie.Need-element-copy-out-k Inv-loop μ-loop
+element-copy-out-k c = search needs
+
+is-free-requires : tie.Need-is-free-requires Inv-loop μ-loop
+is-free-requires c κs = search needs
+
+returns : tie.Need-returns Inv-loop μ-loop
+returns c = let s = c .before .before .before .before .before in
+    first-hit isFree (s .args .t1 .tickets) _ (c .before .before .before .before .loop .place) (omega (arith, program-fits (s .args .t1) (_, s .good .0) .long))
+    (sym (c .before .is-free .ensures) ∙ c .if1 .taken) (c .before .before .before .before .loop .inv .1)
+
+add-place : tie.Need-add-place Inv-loop μ-loop
+add-place c = search needs
+
+loop-less : tie.Need-loop-less Inv-loop μ-loop
+loop-less c = search needs
+
+loop-again : tie.Need-loop-again Inv-loop μ-loop
+loop-again c = let s = c .before .before .before .before .before in (
+  omega arith,
+  first-miss isFree (s .args .t1 .tickets) _ (c .before .before .before .before .loop .place) (omega (arith, program-fits (s .args .t1) (_, s .good .0) .long))
+      (sym (c .before .is-free .ensures) ∙ c .if1 .left) (c .before .before .before .before .loop .inv .1),
+)
+
+returns-2 : tie.Need-returns-2 Inv-loop μ-loop
+returns-2 c = let s = c .before .before in
+    first-end isFree (s .args .t1 .tickets) (c .before .loop .place) (omega (arith, program-fits (s .args .t1) (_, s .good .0) .long)) (c .before .loop .inv .1)
+
+pub free-place-spec : {M : Type 1} → statement M
+free-place-spec =
+    tie.close
+    (tie.spec
+    Inv-loop
+    μ-loop
+    loop-holds
+    mul-k
+    element-copy-out-k
+    is-free-requires
+    returns
+    add-place
+    loop-less
+    loop-again
+    returns-2)
