@@ -1,0 +1,162 @@
+-- Noting the entries, one after the other. After i of them each live one has its place noted at its grant's place, and every note is one of
+-- theirs. So a note that is there already is of an entry before that names the same place; and where each finds its place without a note,
+-- no two name one.
+use Prim.Native.Nat.{ℕ, _+_, _≤_, _<_}
+use native.Mathlib.Omega.{arith}
+use mathlib.Core.Path.{_≡_, sym, ap, subst, _∙_}
+use mathlib.Core.Bool.{Bool, true, false, _&&_}
+use mathlib.Core.List.{List}
+use lib.Dec.{eqb}
+use lib.ListN.{length, getD, set, replicate, length-replicate, length-set, List·getD-eq-default}
+use lib.Seq.{getD-set-same, getD-set-other}
+use borrow.Author.Tests.{eqb-true, eqb-false, eq-eqb}
+use borrow.Author.Count.{below-more}
+use Rattle.lists.specs.Tests.{implies}
+use Rattle.lists.proofs.Tests.{Case, pass, fail, case, no-true, contradiction, cannot-pass, and-l, and-r, and-intro, implies-intro, implies-elim}
+use Rattle.lists.proofs.Everywhere.{all-intro, all-elim, noTwo-intro, noTwo-elim}
+use Rattle.tables.specs.declared.{Ticket.Ticket, Entry.Entry}
+use Rattle.tables.specs.Names.{free, noEntry}
+use Rattle.tables.specs.Order.{underStore, grantOk}
+use Rattle.entry_notes.specs.Notes.{everyLive, placeOf, hasGrant, namesApart, Noter, NotesOf, Noting}
+use Rattle.entry_notes.proofs.Reading.{same-all}
+
+-- the free record is no grant
+no-grant : (e : Entry) → grantOk e free ≡ false
+unfolding grantOk
+no-grant e = go (case (underStore e))
+  where
+    go : Case (underStore e) → grantOk e free ≡ false
+    go (pass p) = rw p
+    go (fail p) = rw p
+
+module _ (tickets : List Ticket) (numbers : List ℕ) where
+  -- as the code finds it
+  pub has-at : (e : Entry) (p : ℕ) → p ≡ placeOf numbers e → (b : Bool) → b ≡ grantOk e (getD tickets p free) → hasGrant tickets numbers e ≡ b
+  unfolding hasGrant
+  has-at e p q b r = ap (λ (x : ℕ). grantOk e (getD tickets x free)) (sym q) ∙ sym r
+
+  pub has-none : (e : Entry) (p : ℕ) → p ≡ placeOf numbers e → length tickets ≤ p → hasGrant tickets numbers e ≡ false
+  has-none e p q h = has-at e p q false (sym (ap (grantOk e) (List·getD-eq-default tickets free h) ∙ no-grant e))
+
+module _ (tickets : List Ticket) (numbers : List ℕ) (es : List Entry) where
+  abbrev at : ℕ → Entry
+  at j = getD es j noEntry
+
+  abbrev has : Entry → Bool
+  has e = hasGrant tickets numbers e
+
+  -- the first i entries
+  pub record SoFar (i : ℕ) (notes : List ℕ) : Type 0 where
+    pub grants : (j : ℕ) → j < i → at j .live ≡ true → has (at j) ≡ true
+    pub kept : NotesOf numbers es i notes
+
+  pub noted-none : (notes : List ℕ) → notes ≡ replicate {A = ℕ} 256 256 → SoFar 0 notes
+  noted-none notes e = record {
+    grants = λ j h. absurd (omega arith);
+    kept = record {
+      long = ap length e ∙ length-replicate {A = ℕ} 256 256;
+      noted = λ j h. absurd (omega arith);
+      noter = λ p ne. absurd (ne (ap (λ (l : List ℕ). getD l p 256) e ∙ same-all {A = ℕ} 256 256 p));
+    };
+  }
+
+  module _ (i : ℕ) (notes : List ℕ) (so : SoFar i notes) where
+    later : (p j : ℕ) → Noter numbers es i p j → Noter numbers es (i + 1) p j
+    later p j n = record { low = omega (arith, n .low); live = n .live; place = n .place }
+
+    pub noted-skip : at i .live ≡ false → SoFar (i + 1) notes
+    noted-skip d = record {
+      grants = below-more (λ j. at j .live ≡ true → has (at j) ≡ true) i (so .grants) (λ l. contradiction l d);
+      kept = record {
+        long = so .kept .long;
+        noted = below-more (λ j. at j .live ≡ true → getD notes (placeOf numbers (at j)) 256 ≡ j) i (so .kept .noted) (λ l. contradiction l d);
+        noter = λ p ne. later p (getD notes p 256) (so .kept .noter p ne);
+      };
+    }
+
+    module _ (h : i < length es) (live : at i .live ≡ true) (p : ℕ) (here : p ≡ placeOf numbers (at i)) where
+      pub noted-bad : has (at i) ≡ false → (after : List ℕ) → Noting tickets numbers es after false
+      noted-bad b after = record {
+        same = sym (cannot-pass (everyLive has es && namesApart numbers es) bad);
+        noted = λ e. no-true e;
+      }
+        where
+          bad : (everyLive has es && namesApart numbers es) ≡ true → ⊥
+          bad e =
+              contradiction
+              (implies-elim (at i .live) (has (at i)) (all-elim noEntry (λ x. implies (x .live) (has x)) es (and-l (everyLive has es) (namesApart numbers es) e) i h) live) b
+
+      pub noted-twice : getD notes p 256 < 256 → (after : List ℕ) → Noting tickets numbers es after false
+      unfolding namesApart
+      noted-twice b after = record {
+        same = sym (cannot-pass (everyLive has es && namesApart numbers es) two);
+        noted = λ e. no-true e;
+      }
+        where
+          first : Noter numbers es i p (getD notes p 256)
+          first = so .kept .noter p (λ z. omega (arith, z, b))
+
+          two : (everyLive has es && namesApart numbers es) ≡ true → ⊥
+          two e =
+              contradiction (eq-eqb (placeOf numbers (at (getD notes p 256))) (placeOf numbers (at i)) (first .place ∙ here))
+              (noTwo-elim noEntry (λ x. x .live) (λ x y. eqb (placeOf numbers x) (placeOf numbers y)) es (and-r (everyLive has es) (namesApart numbers es) e)
+              (getD notes p 256) i (first .low) h (first .live) live)
+
+      module _ (small : i < 256) (low : p < 256) (grant : has (at i) ≡ true) (none : 256 ≤ getD notes p 256) where
+        -- what is no entry's place is no note
+        clear : getD notes p 256 ≡ 256
+        clear = go (case (eqb (getD notes p 256) 256))
+          where
+            go : Case (eqb (getD notes p 256) 256) → getD notes p 256 ≡ 256
+            go (pass e) = eqb-true (getD notes p 256) 256 e
+            go (fail e) = absurd (omega (arith, so .kept .noter p (eqb-false (getD notes p 256) 256 e) .low, none, small))
+
+        new : getD (set notes p i) p 256 ≡ i
+        new = getD-set-same notes p i 256 (omega (arith, so .kept .long, low))
+
+        old : (q : ℕ) → (q ≡ p → ⊥) → getD (set notes p i) q 256 ≡ getD notes q 256
+        old q ne = getD-set-other notes p q i 256 ne
+
+        pub noted-more : SoFar (i + 1) (set notes p i)
+        noted-more = record {
+          grants = below-more (λ j. at j .live ≡ true → has (at j) ≡ true) i (so .grants) (λ l. grant);
+          kept = record {
+            long = length-set notes p i ∙ so .kept .long;
+            noted = below-more (λ j. at j .live ≡ true → getD (set notes p i) (placeOf numbers (at j)) 256 ≡ j) i before (λ l. ap (λ (x : ℕ). getD (set notes p i) x 256) (sym here) ∙ new);
+            noter = λ q ne. noter-at q ne (case (eqb q p));
+          };
+        }
+          where
+            before : (j : ℕ) → j < i → at j .live ≡ true → getD (set notes p i) (placeOf numbers (at j)) 256 ≡ j
+            before j b l =
+                let e = so .kept .noted j b l in
+                old (placeOf numbers (at j))
+                (λ q. let z : j ≡ 256 = sym e ∙ ap (λ (x : ℕ). getD notes x 256) q ∙ clear in omega (arith, z, b, small)) ∙ e
+
+            noter-at : (q : ℕ) → (getD (set notes p i) q 256 ≡ 256 → ⊥) → Case (eqb q p) → Noter numbers es (i + 1) q (getD (set notes p i) q 256)
+            noter-at q ne (pass e) =
+                let z : q ≡ p = eqb-true q p e in
+                subst (λ (j : ℕ). Noter numbers es (i + 1) q j) (sym (ap (λ (x : ℕ). getD (set notes p i) x 256) z ∙ new))
+                (record { low = omega arith; live = live; place = sym here ∙ sym z })
+            noter-at q ne (fail e) =
+                let z = old q (eqb-false q p e) in
+                subst (λ (j : ℕ). Noter numbers es (i + 1) q j) (sym z) (later q (getD notes q 256) (so .kept .noter q (λ x. ne (z ∙ x))))
+
+  pub noted-end : (i : ℕ) (notes : List ℕ) → length es ≡ i → i ≡ 256 → SoFar i notes → Noting tickets numbers es notes true
+  unfolding namesApart
+  noted-end i notes h z so = record {
+    same =
+        sym
+        (and-intro (all-intro noEntry (λ x. implies (x .live) (has x)) es (λ j b. implies-intro (at j .live) (has (at j)) (so .grants j (omega arith))))
+        (noTwo-intro noEntry (λ x. x .live) (λ x y. eqb (placeOf numbers x) (placeOf numbers y)) es
+        (λ j k p q l m. cannot-pass (eqb (placeOf numbers (at j)) (placeOf numbers (at k))) (two j k p (omega arith) l m))));
+    noted = λ e. subst (λ (n : ℕ). NotesOf numbers es n notes) z (so .kept);
+  }
+    where
+      two : (j k : ℕ) → j < k → k < i → at j .live ≡ true → at k .live ≡ true → eqb (placeOf numbers (at j)) (placeOf numbers (at k)) ≡ true → ⊥
+      two j k p q l m e =
+          let s : j ≡ k
+          = sym (so .kept .noted j (omega arith) l)
+          ∙ ap (λ (x : ℕ). getD notes x 256) (eqb-true (placeOf numbers (at j)) (placeOf numbers (at k)) e)
+          ∙ so .kept .noted k q m in
+          omega arith

@@ -1,0 +1,7 @@
+mod TakenSteps
+mod Linking
+mod Settling
+mod Marking
+mod Roots
+mod Parents
+mod Whole

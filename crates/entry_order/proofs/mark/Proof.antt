@@ -1,0 +1,79 @@
+use Prim.Native.Nat.{_-_, _≤_}
+use mathlib.Core.Path.{_≡_, refl, _∙_}
+use native.Mathlib.Omega.{arith}
+use borrow.Author.Needs.{needs}
+use lib.ListN.{length, length-set}
+use Rattle.entry_order.specs.Runs.{Fresh}
+use Rattle.entry_order.proofs.Marking.{fresh-none, fresh-more, hit, all-fresh, one-shared}
+use Rattle.entry_order.proofs.mark.Statement.{statement}
+use Rattle.entry_order.proofs.mark.Tie as tie
+use Rattle.entry_order.proofs.mark.Reads as reads
+use Rattle.entry_order.proofs.mark.Lts as lts
+
+abbrev Inv-loop : tie.InvT-loop
+Inv-loop marks₀ first count i₀ marks i = (i ≤ count) × ((length marks ≡ length marks₀) × Fresh first i marks₀ marks)
+
+abbrev μ-loop : tie.MeasureT-loop
+μ-loop marks₀ first count i₀ marks i = count - i
+
+-- src/lib.rt:14:5
+loop-holds : tie.Need-loop-holds Inv-loop μ-loop
+loop-holds c = (omega arith, (refl, fresh-none _ _))
+
+-- src/lib.rt:15:17
+add-s : tie.Need-add-s Inv-loop μ-loop
+add-s c = search needs
+
+-- src/lib.rt:16:13
+add-i : tie.Need-add-i Inv-loop μ-loop
+add-i c = search needs
+
+-- src/lib.rt:17:12
+slice-read-if1 : tie.Need-slice-read-if1 Inv-loop μ-loop
+slice-read-if1 c = search needs
+
+-- src/lib.rt:18:13
+same-length : tie.Need-same-length Inv-loop μ-loop
+same-length c = search needs
+
+-- src/lib.rt:18:13
+returns : tie.Need-returns Inv-loop μ-loop
+returns c = one-shared _ _ _ _ (hit _ _ _ _ (c .before .before .before .loop .inv .1 .1) _ (c .before .before .loop-test .taken) (c .if1 .taken))
+
+-- src/lib.rt:20:9
+slice-write-marks : tie.Need-slice-write-marks Inv-loop μ-loop
+slice-write-marks c = search needs
+
+-- src/lib.rt:14:5
+loop-less : tie.Need-loop-less Inv-loop μ-loop
+loop-less c = search needs
+
+-- src/lib.rt:14:5
+loop-again : tie.Need-loop-again Inv-loop μ-loop
+loop-again c = (omega arith, (length-set (c .before .before .before .loop .marks) _ _ ∙ c .before .before .before .loop .inv .1 .0, fresh-more _ _ _ _ (c .before .before .before .loop .inv .1 .1) (omega (arith, c .before .before .before .before .pre, c .before .before .before .loop .inv .1 .0)) (c .if1 .left)))
+
+-- src/lib.rt:9:1
+same-length-2 : tie.Need-same-length-2 Inv-loop μ-loop
+same-length-2 c = search needs
+
+-- src/lib.rt:9:1
+returns-2 : tie.Need-returns-2 Inv-loop μ-loop
+returns-2 c = all-fresh _ _ _ _ (c .before .loop .i) (omega arith) (c .before .loop .inv .1 .1)
+
+pub mark-spec : {M : Type 1} → statement M
+mark-spec =
+    tie.close
+    (tie.spec
+    Inv-loop
+    μ-loop
+    loop-holds
+    add-s
+    add-i
+    slice-read-if1
+    same-length
+    returns
+    slice-write-marks
+    loop-less
+    loop-again
+    same-length-2
+    returns-2)

@@ -1,0 +1,4 @@
+pub mod Parents
+pub mod Ends
+pub mod Runs
+pub mod Order

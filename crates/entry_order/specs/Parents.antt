@@ -1,0 +1,33 @@
+-- The parents of entries by places, and their chains.
+use Prim.Native.Nat.{ℕ}
+use mathlib.Core.Path.{_≡_}
+use mathlib.Core.Bool.{Bool, true, not, _&&_, cond}
+use mathlib.Core.List.{List, map}
+use lib.Dec.{ltb}
+use Rattle.lists.specs.Tests.{implies}
+use Rattle.lists.specs.Lists.{all, allAt}
+use Rattle.tables.specs.declared.Entry.{Entry}
+use Rattle.tables.specs.Order.{underStore, parentEntryOk}
+use Rattle.chains.specs.Walk.{endFrom}
+use Rattle.entry_notes.specs.Notes.{noteOf, entryBy}
+
+-- the entry hangs under another
+abbrev pub isHung : Entry → Bool
+isHung e = e .live && not (underStore e)
+
+-- "A parent entry is live, has the pass on right and contains the entry's sheets and rights."
+unfoldable pub hasParent : List ℕ → List ℕ → List Entry → Entry → Bool
+hasParent numbers notes es e = implies (isHung e) (parentEntryOk e (entryBy numbers notes es (e .parent)))
+
+-- the place of the parent entry; 256 where there is none
+unfoldable pub upOf : List ℕ → List ℕ → Entry → ℕ
+upOf numbers notes e = cond (isHung e) (noteOf numbers notes (e .parent)) 256
+
+-- the answer, and the places of all parents
+pub record Linking (numbers notes : List ℕ) (es : List Entry) (up : List ℕ) (r : Bool) : Type 0 where
+  pub same : r ≡ all (hasParent numbers notes es) es
+  pub ups : r ≡ true → up ≡ map (upOf numbers notes) es
+
+-- the chain from each place ends
+unfoldable pub allEnd : List ℕ → Bool
+allEnd up = allAt (λ i next. ltb (endFrom 256 up i) 256) 0 up

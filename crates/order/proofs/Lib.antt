@@ -1,0 +1,3 @@
+mod Numbered
+mod Rules
+mod Far

@@ -1,0 +1,41 @@
+-- `is_far`: the tests of `isFar`, one after the other. s is the entry.
+use mathlib.Core.Path.{sym, _∙_}
+use borrow.Author.Needs.{needs}
+use borrow.Author.Tests.{not-true, not-false}
+use Rattle.order.proofs.Far.{no-recall, no-pad, no-program, by-pad}
+use Rattle.order.proofs.is_far.Statement.{statement}
+use Rattle.order.proofs.is_far.Tie as tie
+use Rattle.tables.proofs.Kind.is_recall.Reads as is-recall-reads
+
+is-recall-requires : tie.Need-is-recall-requires
+is-recall-requires c κs = search needs
+
+returns : tie.Need-returns
+returns c =
+    let s = c .before .before in
+    no-recall (s .args .place) (s .args .k) (sym (c .before .is-recall .ensures) ∙ not-true _ (c .if1 .taken))
+
+returns-2 : tie.Need-returns-2
+returns-2 c =
+    let s = c .before .before .before .before .before in
+    let r = sym (c .before .before .before .before .is-recall .ensures) ∙ not-false _ (c .before .before .before .if1 .left) in
+    no-pad (s .args .place) (s .args .k) r (c .if2 .taken)
+
+returns-3 : tie.Need-returns-3
+returns-3 c =
+    let s = c .before .before .before .before .before .before .before in
+    let r = sym (c .before .before .before .before .before .before .is-recall .ensures) ∙ not-false _ (c .before .before .before .before .before .if1 .left) in
+    no-program (s .args .place) (s .args .k) r (c .before .before .if2 .left) (c .if3 .taken)
+
+cast-result : tie.Need-cast-result
+cast-result c = search needs
+
+returns-4 : tie.Need-returns-4
+returns-4 c =
+    let s = c .before .before .before .before .before .before .before .before in
+    let r = sym (c .before .before .before .before .before .before .before .is-recall .ensures) ∙ not-false _ (c .before .before .before .before .before .before .if1 .left) in
+    by-pad (s .args .place) (s .args .k) r (c .before .before .before .if2 .left) (c .before .if3 .left)
+
+pub is-far-spec : {M : Type 1} → statement M
+is-far-spec =
+    tie.close (tie.spec is-recall-requires returns returns-2 returns-3 cast-result returns-4)

@@ -1,0 +1,3 @@
+mod Seen
+mod KeySteps
+pub mod Laws

@@ -1,0 +1,257 @@
+-- Keys seen so far. A loop over the keys keeps what tells whether a key stands among those before it: a mark at a place, or a list of the
+-- dead ones. Where a key that counts was seen before, two are alike. Where none was, those up to here are apart, and at the end none
+-- stands twice.
+use Prim.Native.Nat.{ℕ, _+_, _≤_, _<_}
+use native.Mathlib.Numerals.{add-one}
+use native.Mathlib.Omega.{arith}
+use mathlib.Core.Path.{_≡_, refl, sym, ap, _∙_, subst}
+use mathlib.Core.Bool.{Bool, true, false, _||_}
+use mathlib.Core.List.{List, [], _∷_, _++_}
+use borrow.Author.Tests.{ltb-true, lt-ltb, eqb-true, eqb-false, eq-eqb, ne-eqb}
+use lib.Dec.{eqb}
+use lib.ListN.{length, getD, set, take, replicate, length-replicate, getD-replicate, length-set}
+use lib.Seq.{getD-set-same, getD-set-other, take-suc-set}
+use Rattle.lists.specs.Lists.{some, noTwo}
+use Rattle.lists.proofs.Tests.{Case, pass, fail, case, no-true, contradiction, cannot-pass, both-ways, or-left, or-right}
+use Rattle.lists.proofs.Everywhere.{some-intro, some-elim, noTwo-intro, noTwo-elim}
+use Rattle.recall_marks.specs.Keys.{isPlace, isDead, Marked}
+
+-- ---- a number among others
+-- the number at i, and no other before it, is x
+pub has-here : (l : List ℕ) (x i : ℕ) → i < length l → getD l i 0 ≡ x → true ≡ some (λ y. eqb y x) l
+has-here l x i h e = sym (some-intro 0 (λ y. eqb y x) l i h (eq-eqb (getD l i 0) x e))
+
+pub has-none : (l : List ℕ) (x i : ℕ) → length l ≤ i → ((j : ℕ) → j < i → getD l j 0 ≡ x → ⊥) → false ≡ some (λ y. eqb y x) l
+has-none l x i h none = sym (cannot-pass (some (λ y. eqb y x) l) found)
+  where
+    found : some (λ y. eqb y x) l ≡ true → ⊥
+    found e =
+        let w = some-elim 0 (λ y. eqb y x) l e in
+        none (w .place) (omega (arith, w .low)) (eqb-true (getD l (w .place) 0) x (w .passes))
+
+has-snoc : (l : List ℕ) (a x : ℕ) → some (λ y. eqb y x) (l ++ (a ∷ [])) ≡ (some (λ y. eqb y x) l || eqb a x)
+unfolding some
+has-snoc [] a x = or-none (eqb a x)
+  where
+    or-none : (b : Bool) → (b || false) ≡ (false || b)
+    or-none true = refl
+    or-none false = refl
+has-snoc (b ∷ l) a x = ap (λ (r : Bool). eqb b x || r) (has-snoc l a x) ∙ or-assoc (eqb b x) (some (λ y. eqb y x) l) (eqb a x)
+  where
+    or-assoc : (p q r : Bool) → (p || (q || r)) ≡ (p || q || r)
+    or-assoc true q r = refl
+    or-assoc false q r = refl
+
+-- ---- among the first i keys
+module _ (keys : List ℕ) where
+  abbrev key : ℕ → ℕ
+  key a = getD keys a 0
+
+  -- x is one of them
+  pub record Before (i x : ℕ) : Type 0 where
+    pub at : ℕ
+    pub low : at < i
+    pub here : key at ≡ x
+
+  later : (i x : ℕ) → Before i x → Before (i + 1) x
+  later i x b = record { at = b .at; low = omega (arith, b .low); here = b .here }
+
+  module _ (counts : ℕ → Bool) where
+    -- no two of those that count are alike
+    abbrev pub Apart : ℕ → Type 0
+    Apart i = (a b : ℕ) → a < b → b < i → counts (key a) ≡ true → counts (key b) ≡ true → eqb (key a) (key b) ≡ false
+
+    apart-none : Apart 0
+    apart-none a b p q = absurd (omega (arith, q))
+
+    apart-more : (i : ℕ) → Apart i → (counts (key i) ≡ true → (a : ℕ) → a < i → counts (key a) ≡ true → key a ≡ key i → ⊥) → Apart (i + 1)
+    apart-more i apart new a b p q c d = go (case (eqb b i))
+      where
+        go : Case (eqb b i) → eqb (key a) (key b) ≡ false
+        go (pass e) =
+            let h : b ≡ i = eqb-true b i e in
+            rw h (ne-eqb (key a) (key i) (λ s. new (subst (λ (m : ℕ). counts (key m) ≡ true) h d) a (omega arith) c s))
+        go (fail e) = apart a b p (omega (arith, eqb-false b i e)) c d
+
+    apart-end : (i : ℕ) → length keys ≤ i → Apart i → noTwo counts eqb keys ≡ true
+    apart-end i h apart = noTwo-intro 0 counts eqb keys (λ a b p q. apart a b p (omega arith))
+
+    apart-not : (i : ℕ) → i < length keys → Before i (key i) → counts (key i) ≡ true → noTwo counts eqb keys ≡ false
+    apart-not i h b c = cannot-pass (noTwo counts eqb keys) twice
+      where
+        twice : noTwo counts eqb keys ≡ true → ⊥
+        twice e =
+            contradiction (eq-eqb (key (b .at)) (key i) (b .here))
+            (noTwo-elim 0 counts eqb keys e (b .at) i (b .low) h (subst (λ (x : ℕ). counts x ≡ true) (sym (b .here)) c) c)
+
+  -- ---- the marks: 1 at the places among the keys, 0 elsewhere
+  pub record Marks (i : ℕ) (marks : List ℕ) : Type 0 where
+    pub long : length marks ≡ 256
+    pub apart : Apart isPlace i
+    pub hit : (a : ℕ) → a < i → key a < 256 → getD marks (key a) 0 ≡ 1
+    pub from : (p : ℕ) → p < 256 → (getD marks p 0 ≡ 0 → ⊥) → Before i p
+
+  pub marks-none : (marks : List ℕ) → marks ≡ replicate 256 0 → Marks 0 marks
+  marks-none marks e = record {
+    long = ap length e ∙ length-replicate {A = ℕ} 256 0;
+    apart = apart-none isPlace;
+    hit = λ a h. absurd (omega (arith, h));
+    from = λ p h ne. absurd (ne (ap (λ (l : List ℕ). getD l p 0) e ∙ getD-replicate {A = ℕ} 256 p 0 0 h));
+  }
+
+  module _ (i : ℕ) (marks : List ℕ) (m : Marks i marks) where
+    pub marks-skip : 256 ≤ key i → Marks (i + 1) marks
+    marks-skip h = record {
+      long = m .long;
+      apart = apart-more isPlace i (m .apart) (λ c. absurd (omega (arith, ltb-true (key i) 256 c, h)));
+      hit = hit;
+      from = λ p l ne. later i p (m .from p l ne);
+    }
+      where
+        hit : (a : ℕ) → a < i + 1 → key a < 256 → getD marks (key a) 0 ≡ 1
+        hit a l k = m .hit a (go (case (eqb a i))) k
+          where
+            go : Case (eqb a i) → a < i
+            go (pass e) = let s : key a ≡ key i = ap key (eqb-true a i e) in absurd (omega (arith, s, h, k))
+            go (fail e) = omega (arith, eqb-false a i e, l)
+
+    module _ (low : key i < 256) where
+      pub marks-more : getD marks (key i) 0 ≡ 0 → Marks (i + 1) (set marks (key i) 1)
+      marks-more z = record {
+        long = length-set marks (key i) 1 ∙ m .long;
+        apart = apart-more isPlace i (m .apart) (λ c a l d s. clash a l s);
+        hit = hit;
+        from = from;
+      }
+        where
+          there : key i < length marks
+          there = omega (arith, m .long, low)
+
+          clash : (a : ℕ) → a < i → key a ≡ key i → ⊥
+          clash a l s =
+              let e : getD marks (key a) 0 ≡ 1 = m .hit a l (omega (arith, s, low)) in
+              let f : getD marks (key a) 0 ≡ 0 = ap (λ (p : ℕ). getD marks p 0) s ∙ z in
+              omega (arith, e, f)
+
+          hit : (a : ℕ) → a < i + 1 → key a < 256 → getD (set marks (key i) 1) (key a) 0 ≡ 1
+          hit a l k = go (case (eqb (key a) (key i)))
+            where
+              go : Case (eqb (key a) (key i)) → getD (set marks (key i) 1) (key a) 0 ≡ 1
+              go (pass e) = rw (eqb-true (key a) (key i) e) (getD-set-same marks (key i) 1 0 there)
+              go (fail e) =
+                  getD-set-other marks (key i) (key a) 1 0 (eqb-false (key a) (key i) e)
+                  ∙ m .hit a (earlier (case (eqb a i))) k
+                where
+                  earlier : Case (eqb a i) → a < i
+                  earlier (pass f) = absurd (eqb-false (key a) (key i) e (ap key (eqb-true a i f)))
+                  earlier (fail f) = omega (arith, eqb-false a i f, l)
+
+          from : (p : ℕ) → p < 256 → (getD (set marks (key i) 1) p 0 ≡ 0 → ⊥) → Before (i + 1) p
+          from p l ne = go (case (eqb p (key i)))
+            where
+              go : Case (eqb p (key i)) → Before (i + 1) p
+              go (pass e) = record { at = i; low = omega arith; here = sym (eqb-true p (key i) e) }
+              go (fail e) =
+                  later i p (m .from p l (λ z. ne (getD-set-other marks (key i) p 1 0 (eqb-false p (key i) e) ∙ z)))
+
+      pub marks-not : i < length keys → (getD marks (key i) 0 ≡ 0 → ⊥) → Marked keys marks false
+      marks-not l ne = record {
+        once = sym (apart-not isPlace i l (m .from (key i) low ne) (lt-ltb (key i) 256 low));
+        told = λ e. no-true e;
+      }
+
+    pub marks-end : length keys ≡ i → Marked keys marks true
+    marks-end h = record {
+      once = sym (apart-end isPlace i (omega arith) (m .apart));
+      told = λ e p l. both-ways (eqb (getD marks p 0) 1) (some (λ x. eqb x p) keys) (there p l) (back p l);
+    }
+      where
+        there : (p : ℕ) → p < 256 → eqb (getD marks p 0) 1 ≡ true → some (λ x. eqb x p) keys ≡ true
+        there p l e =
+            let b : Before i p = m .from p l (λ z. omega (arith, eqb-true (getD marks p 0) 1 e, z)) in
+            some-intro 0 (λ x. eqb x p) keys (b .at) (omega (arith, b .low, h)) (eq-eqb (key (b .at)) p (b .here))
+
+        back : (p : ℕ) → p < 256 → some (λ x. eqb x p) keys ≡ true → eqb (getD marks p 0) 1 ≡ true
+        back p l e =
+            let w = some-elim 0 (λ x. eqb x p) keys e in
+            let s : key (w .place) ≡ p = eqb-true (key (w .place)) p (w .passes) in
+            let t : getD marks (key (w .place)) 0 ≡ 1 = m .hit (w .place) (omega (arith, w .low, h)) (omega (arith, s, l)) in
+            eq-eqb (getD marks p 0) 1 (ap (λ (x : ℕ). getD marks x 0) (sym s) ∙ t)
+
+  -- ---- the dead keys, listed one after the other
+  abbrev listed : ℕ → List ℕ → ℕ → Bool
+  listed count dead x = some (λ y. eqb y x) (take count dead)
+
+  pub record Dead (i count : ℕ) (dead : List ℕ) : Type 0 where
+    pub long : length dead ≡ 256
+    pub few : count ≤ i
+    pub apart : Apart isDead i
+    pub hit : (a : ℕ) → a < i → 256 < key a → listed count dead (key a) ≡ true
+    pub from : (x : ℕ) → listed count dead x ≡ true → Before i x
+
+  pub dead-none : (dead : List ℕ) → length dead ≡ 256 → Dead 0 0 dead
+  unfolding some
+  dead-none dead e = record {
+    long = e;
+    few = omega arith;
+    apart = apart-none isDead;
+    hit = λ a h. absurd (omega (arith, h));
+    from = λ x h. no-true h;
+  }
+
+  module _ (i count : ℕ) (dead : List ℕ) (m : Dead i count dead) where
+    pub dead-skip : key i ≤ 256 → Dead (i + 1) count dead
+    dead-skip h = record {
+      long = m .long;
+      few = omega (arith, m .few);
+      apart = apart-more isDead i (m .apart) (λ c. absurd (omega (arith, ltb-true 256 (key i) c, h)));
+      hit = hit;
+      from = λ x e. later i x (m .from x e);
+    }
+      where
+        hit : (a : ℕ) → a < i + 1 → 256 < key a → listed count dead (key a) ≡ true
+        hit a l k = m .hit a (go (case (eqb a i))) k
+          where
+            go : Case (eqb a i) → a < i
+            go (pass e) = let s : key a ≡ key i = ap key (eqb-true a i e) in absurd (omega (arith, s, h, k))
+            go (fail e) = omega (arith, eqb-false a i e, l)
+
+    module _ (high : 256 < key i) where
+      pub dead-more : i < 256 → listed count dead (key i) ≡ false → Dead (i + 1) (count + 1) (set dead count (key i))
+      dead-more room new = record {
+        long = length-set dead count (key i) ∙ m .long;
+        few = omega (arith, m .few);
+        apart = apart-more isDead i (m .apart) (λ c a l d s. contradiction (subst (λ (x : ℕ). listed count dead x ≡ true) s (m .hit a l (omega (arith, s, high)))) new);
+        hit = hit;
+        from = from;
+      }
+        where
+          one-more : (x : ℕ) → listed (count + 1) (set dead count (key i)) x ≡ (listed count dead x || eqb (key i) x)
+          one-more x =
+              let e : take (count + 1) (set dead count (key i)) ≡ take count dead ++ (key i ∷ [])
+              = rw add-one (take-suc-set dead count (key i) (omega (arith, m .few, m .long, room))) in
+              ap (some (λ y. eqb y x)) e ∙ has-snoc (take count dead) (key i) x
+
+          hit : (a : ℕ) → a < i + 1 → 256 < key a → listed (count + 1) (set dead count (key i)) (key a) ≡ true
+          hit a l k = one-more (key a) ∙ go (case (eqb a i))
+            where
+              go : Case (eqb a i) → (listed count dead (key a) || eqb (key i) (key a)) ≡ true
+              go (pass e) = or-right (listed count dead (key a)) (eq-eqb (key i) (key a) (ap key (sym (eqb-true a i e))))
+              go (fail e) = or-left (eqb (key i) (key a)) (m .hit a (omega (arith, eqb-false a i e, l)) k)
+
+          from : (x : ℕ) → listed (count + 1) (set dead count (key i)) x ≡ true → Before (i + 1) x
+          from x e = go (case (eqb (key i) x))
+            where
+              go : Case (eqb (key i) x) → Before (i + 1) x
+              go (pass f) = record { at = i; low = omega arith; here = eqb-true (key i) x f }
+              go (fail f) = later i x (m .from x (or-first (listed count dead x) (eqb (key i) x) (sym (one-more x) ∙ e) f))
+                where
+                  or-first : (a b : Bool) → (a || b) ≡ true → b ≡ false → a ≡ true
+                  or-first true b h g = refl
+                  or-first false b h g = sym g ∙ h
+
+      pub dead-not : i < length keys → listed count dead (key i) ≡ true → false ≡ noTwo isDead eqb keys
+      dead-not l e = sym (apart-not isDead i l (m .from (key i) e) (lt-ltb 256 (key i) high))
+
+    pub dead-end : length keys ≡ i → true ≡ noTwo isDead eqb keys
+    dead-end h = sym (apart-end isDead i (omega arith) (m .apart))

@@ -1,0 +1,90 @@
+-- `dead_once`: the list has the dead ones of the first i keys (`Dead` in Seen), and those keys are apart. A listed key was seen before.
+use Prim.Native.Nat.{ℕ, _-_, _≤_}
+use mathlib.Core.Path.{sym, _∙_}
+use native.Mathlib.Omega.{arith}
+use borrow.Author.Needs.{needs}
+use lib.ListN.{length-replicate}
+use lib.Seq.{length-take-le}
+use Rattle.recall_marks.proofs.Seen.{Dead, dead-none, dead-skip, dead-more, dead-not, dead-end}
+use Rattle.recall_marks.proofs.dead_once.Statement.{statement}
+use Rattle.recall_marks.proofs.dead_once.Tie as tie
+use Rattle.recall_marks.proofs.dead_once.Reads as reads
+use Rattle.recall_marks.proofs.dead_once.Lts as lts
+use Rattle.recall_marks.proofs.has.Reads as has-reads
+
+abbrev Inv-loop : tie.InvT-loop
+Inv-loop keys dead₀ count₀ i₀ dead count i = (i ≤ 256) × Dead keys i count dead
+
+abbrev μ-loop : tie.MeasureT-loop
+μ-loop keys dead₀ count₀ i₀ dead count i = 256 - i
+
+loop-holds : tie.Need-loop-holds Inv-loop μ-loop
+loop-holds c = (omega arith, dead-none (c .args .keys .now) _ (length-replicate {A = ℕ} 256 0))
+
+mul-key : tie.Need-mul-key Inv-loop μ-loop
+mul-key c = search needs
+
+element-copy-out-key : tie.Need-element-copy-out-key Inv-loop μ-loop
+element-copy-out-key c = search needs
+
+add-i : tie.Need-add-i Inv-loop μ-loop
+add-i c = search needs
+
+array-share-prefix-dead : tie.Need-array-share-prefix-dead Inv-loop μ-loop
+array-share-prefix-dead c = omega (arith, c .before .before .before .loop .inv .1 .few, c .before .before .before .loop .inv .1 .long)
+
+slice-aggregate-has : tie.Need-slice-aggregate-has Inv-loop μ-loop
+slice-aggregate-has c = sym (length-take-le (c .before .before .before .before .loop .count) (c .before .before .before .before .loop .dead) (omega (arith, c .before .before .before .before .loop .inv .1 .few, c .before .before .before .before .loop .inv .1 .long)))
+
+has-requires : tie.Need-has-requires Inv-loop μ-loop
+has-requires c κs = search needs
+
+returns : tie.Need-returns Inv-loop μ-loop
+returns c = dead-not (c .before .before .before .before .before .before .before .args .keys .now) (c .before .before .before .before .before .before .loop .i) (c .before .before .before .before .before .before .loop .count) (c .before .before .before .before .before .before .loop .dead) (c .before .before .before .before .before .before .loop .inv .1) (c .before .before .before .if1 .taken) (omega (arith, c .before .before .before .before .before .before .before .pre)) (sym (c .before .has .ensures) ∙ c .if2 .taken)
+
+mul-dead : tie.Need-mul-dead Inv-loop μ-loop
+mul-dead c = omega (arith, c .before .before .before .before .before .before .loop .inv .1 .few)
+
+array-write-dead : tie.Need-array-write-dead Inv-loop μ-loop
+array-write-dead c = omega (arith, c .before .before .before .before .before .before .loop .inv .1 .few)
+
+add-count : tie.Need-add-count Inv-loop μ-loop
+add-count c = omega (arith, c .before .before .before .before .before .before .loop .inv .1 .few)
+
+loop-less : tie.Need-loop-less Inv-loop μ-loop
+loop-less c = search needs
+
+loop-again : tie.Need-loop-again Inv-loop μ-loop
+loop-again c = (omega arith, dead-more (c .before .before .before .before .before .before .before .args .keys .now) (c .before .before .before .before .before .before .loop .i) (c .before .before .before .before .before .before .loop .count) (c .before .before .before .before .before .before .loop .dead) (c .before .before .before .before .before .before .loop .inv .1) (c .before .before .before .if1 .taken) (omega arith) (sym (c .before .has .ensures) ∙ c .if2 .left))
+
+loop-less-2 : tie.Need-loop-less-2 Inv-loop μ-loop
+loop-less-2 c = search needs
+
+loop-again-2 : tie.Need-loop-again-2 Inv-loop μ-loop
+loop-again-2 c = (omega arith, dead-skip (c .before .before .before .before .args .keys .now) (c .before .before .before .loop .i) (c .before .before .before .loop .count) (c .before .before .before .loop .dead) (c .before .before .before .loop .inv .1) (c .if1 .left))
+
+returns-2 : tie.Need-returns-2 Inv-loop μ-loop
+returns-2 c = dead-end (c .before .before .args .keys .now) (c .before .loop .i) (c .before .loop .count) (c .before .loop .dead) (c .before .loop .inv .1) (omega (arith, c .before .before .pre))
+
+pub dead-once-spec : {M : Type 1} → statement M
+dead-once-spec =
+    tie.close
+    (tie.spec
+    Inv-loop
+    μ-loop
+    loop-holds
+    mul-key
+    element-copy-out-key
+    add-i
+    array-share-prefix-dead
+    slice-aggregate-has
+    has-requires
+    returns
+    mul-dead
+    array-write-dead
+    add-count
+    loop-less
+    loop-again
+    loop-less-2
+    loop-again-2
+    returns-2)

@@ -1,0 +1,33 @@
+-- `target_key`: not a recall, 256; a recall, the key of the place that was found for its target.
+use Prim.Native.Nat.{ℕ}
+use mathlib.Core.Path.{sym, ap, _∙_}
+use borrow.Author.Needs.{needs}
+use borrow.Author.Tests.{not-true, not-false}
+use Rattle.recall_marks.specs.Keys.{keyOf}
+use Rattle.recall_marks.proofs.KeySteps.{key-none, key-recall}
+use Rattle.recall_marks.proofs.target_key.Statement.{statement}
+use Rattle.recall_marks.proofs.target_key.Tie as tie
+use Rattle.recall_marks.proofs.target_key.Reads as reads
+use Rattle.recall_marks.proofs.target_key.Lts as lts
+use Rattle.index.proofs.place_of.Reads as place-of-reads
+use Rattle.recall_marks.proofs.key_of.Reads as key-of-reads
+use Rattle.tables.proofs.Kind.is_recall.Reads as is-recall-reads
+
+is-recall-requires : tie.Need-is-recall-requires
+is-recall-requires c κs = search needs
+
+returns : tie.Need-returns
+returns c = key-none (c .before .before .before .args .numbers .now) (c .before .before .before .args .k) (sym (c .before .is-recall .ensures) ∙ not-true (c .before .is-recall .result) (c .if1 .taken))
+
+place-of-requires : tie.Need-place-of-requires
+place-of-requires c κs = search needs
+
+key-of-requires : tie.Need-key-of-requires
+key-of-requires c κs = search needs
+
+returns-2 : tie.Need-returns-2
+returns-2 c = c .key-of .ensures ∙ ap (λ (p : ℕ). keyOf p (c .before .before .before .before .before .before .args .k .other)) (c .before .place-of .ensures) ∙ key-recall (c .before .before .before .before .before .before .args .numbers .now) (c .before .before .before .before .before .before .args .k) (sym (c .before .before .before .before .is-recall .ensures) ∙ not-false (c .before .before .before .before .is-recall .result) (c .before .before .before .if1 .left))
+
+pub target-key-spec : {M : Type 1} → statement M
+target-key-spec =
+    tie.close (tie.spec is-recall-requires returns place-of-requires key-of-requires returns-2)

@@ -1,0 +1,129 @@
+// "No target has two recalls; every child has one": a test of the targets' keys, one for each place. A key below 256 is the place of a
+// live target, a key above 256 names a target without a place, and 256 stands where there is no recall.
+ghost use mathlib.Core.Path.{_≡_};
+ghost use mathlib.Core.List.{map};
+ghost use lib.Dec.{eqb};
+ghost use lib.ListN.{length, replicate};
+ghost use Rattle.lists.specs.Lists.{some, noTwo, allAt};
+ghost use Rattle.recall_marks.specs.Keys.{keyOf, targetKey, isDead, Marked, childMarked};
+use index::Flat;
+use tables::Name;
+use tables::Ticket;
+
+fn wide(x: u16) -> usize
+    ensures { λ r. ⌜ r ≡ x ⌝ }
+{
+    x as usize
+}
+
+// The key of a target: its place, or where it has none a number above 256 of its own.
+fn key_of(place: usize, target: Name) -> usize
+    ensures { λ r. ⌜ r ≡ keyOf place target ⌝ }
+{
+    if place < 256 {
+        return place;
+    }
+    let program = wide(target.pad) * 65536 + wide(target.program);
+    257 + program * 65536 + wide(target.number)
+}
+
+// The key of a recall's target; 256 for any other ticket.
+fn target_key(numbers: &[u16], k: Ticket) -> usize
+    requires { ⌜ length (now numbers) ≡ 256 ⌝ }
+    ensures { λ r. ⌜ r ≡ targetKey (now (numbers .entry)) k ⌝ }
+{
+    let kind = k.kind;
+    if !kind.is_recall() {
+        return 256;
+    }
+    let target = k.other;
+    let place = index::place_of(numbers, target);
+    key_of(place, target)
+}
+
+// The keys of all places.
+pub fn write_keys(f: Flat, numbers: &[u16], keys: &mut [usize])
+    requires { ⌜ (length (now numbers) ≡ 256) × (length (now keys) ≡ 256) ⌝ }
+    ensures { λ _. ⌜ now (keys .exit) ≡ map (targetKey (now (numbers .entry))) (f .tickets) ⌝ }
+{
+    let mut i: usize = 0;
+    while i < 256 {
+        let k = f.tickets[i];
+        keys[i] = target_key(numbers, k);
+        i = i + 1;
+    }
+}
+
+// No place is the target of two recalls. The places of targets are marked on the way.
+pub fn mark_places(keys: &[usize; 256], marks: &mut [u8; 256]) -> bool
+    requires { ⌜ (length (now keys) ≡ 256) × (now marks ≡ replicate 256 0) ⌝ }
+    ensures { λ r. ⌜ Marked (now (keys .entry)) (now (marks .exit)) r ⌝ }
+{
+    let mut i: usize = 0;
+    while i < 256 {
+        let key = keys[i];
+        i = i + 1;
+        if key < 256 {
+            if marks[key] != 0 {
+                return false;
+            }
+            marks[key] = 1;
+        }
+    }
+    true
+}
+
+// Is x one of the numbers?
+fn has(numbers: &[usize], x: usize) -> bool
+    ensures { λ r. ⌜ r ≡ some (λ y. eqb y x) (now (numbers .entry)) ⌝ }
+{
+    let mut i: usize = 0;
+    while i < numbers.len() {
+        if numbers[i] == x {
+            return true;
+        }
+        i = i + 1;
+    }
+    false
+}
+
+// No target without a place has two recalls. Such targets are few: each is looked for among those before it.
+pub fn dead_once(keys: &[usize; 256]) -> bool
+    requires { ⌜ length (now keys) ≡ 256 ⌝ }
+    ensures { λ r. ⌜ r ≡ noTwo isDead eqb (now (keys .entry)) ⌝ }
+{
+    let mut dead: [usize; 256] = [0; 256];
+    let mut count: usize = 0;
+    let mut i: usize = 0;
+    while i < 256 {
+        let key = keys[i];
+        i = i + 1;
+        if 256 < key {
+            if has(&dead[..count], key) {
+                return false;
+            }
+            dead[count] = key;
+            count = count + 1;
+        }
+    }
+    true
+}
+
+// Every child's place is marked.
+pub fn children_marked(f: Flat, marks: &[u8; 256]) -> bool
+    ensures { λ r. ⌜ r ≡ allAt (childMarked (now (marks .entry))) 0 (f .tickets) ⌝ }
+{
+    let mut i: usize = 0;
+    while i < 256 {
+        let at = i;
+        let k = f.tickets[at];
+        i = i + 1;
+        let kind = k.kind;
+        if kind.is_child() {
+            if marks[at] != 1 {
+                return false;
+            }
+        }
+    }
+    true
+}

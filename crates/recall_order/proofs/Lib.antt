@@ -1,0 +1,2 @@
+mod OneRecall
+mod Whole

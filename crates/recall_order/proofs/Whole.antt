@@ -1,0 +1,76 @@
+-- T6 put together: each recall by itself, no target with two recalls, every child with one. The keys settle the last two.
+use Prim.Native.Nat.{ℕ, _<_}
+use mathlib.Core.Path.{_≡_, refl, sym, ap, _∙_}
+use mathlib.Core.Bool.{Bool, true, false, _&&_}
+use mathlib.Core.List.{List, map}
+use lib.Dec.{eqb}
+use lib.ListN.{getD}
+use Rattle.lists.specs.Lists.{some, noTwo, allAt}
+use Rattle.lists.proofs.Tests.{both-ways, not-pass, and-l, and-r, and-intro}
+use Rattle.tables.specs.declared.{Entry.Entry, Tables.Tables}
+use Rattle.tables.specs.Kinds.{isChild, isRecall}
+use Rattle.tables.specs.Names.{free}
+use Rattle.tables.specs.Order.{everyTicket, recallOk, t6}
+use Rattle.tables.proofs.Fits.{Owned, NameFits, array-at, ticket-fits}
+use Rattle.tables.proofs.Ticket as ticket
+use Rattle.index.specs.declared.Flat.{Flat}
+use Rattle.index.proofs.Flat as flat
+use Rattle.index.proofs.Laws.{every-placed, placed-every}
+use Rattle.recall_marks.specs.Keys.{targetKey, isPlace, isDead, Marked, childMarked}
+use Rattle.recall_marks.proofs.Laws.{oneRecall, hasRecall, once-keys, keys-once, children-recalled}
+use Rattle.recall_order.specs.Recalls.{LaidOut, recallHolds}
+
+-- a target's numbers fit 16 bits
+pub targets-fit : (f : Flat) → Owned flat.the-field f → (p : ℕ) → p < 256 → NameFits (getD (f .tickets) p free .other)
+targets-fit f o p h = ticket-fits (getD (f .tickets) p free) (array-at ticket.the-field 256 (f .tickets) (_, o .1 .1 .1 .0) p free h) .other
+
+module _ {t : Tables} {f : Flat} {es : List Entry} {numbers notes : List ℕ} (ix : LaidOut t f es numbers notes) where
+  abbrev each : Bool
+  each = everyTicket isRecall (recallHolds t) t
+
+  abbrev once : Bool
+  once = everyTicket isRecall (oneRecall t) t
+
+  abbrev recalled : Bool
+  recalled = everyTicket isChild (hasRecall t) t
+
+  recalls-by-part : everyTicket isRecall (recallOk t) t ≡ (each && once)
+  unfolding recallOk recallHolds
+  recalls-by-part =
+      both-ways (everyTicket isRecall (recallOk t) t) (each && once)
+      (λ e. and-intro
+      (placed-every t (ix .numbered .sized) isRecall (recallHolds t) (λ p h r. and-l (recallHolds t _ _) _ (every-placed t (ix .numbered .sized) isRecall (recallOk t) e p h r)))
+      (placed-every t (ix .numbered .sized) isRecall (oneRecall t) (λ p h r. and-r (recallHolds t _ _) _ (every-placed t (ix .numbered .sized) isRecall (recallOk t) e p h r))))
+      (λ e. placed-every t (ix .numbered .sized) isRecall (recallOk t)
+      (λ p h r. and-intro
+      (every-placed t (ix .numbered .sized) isRecall (recallHolds t) (and-l each once e) p h r)
+      (every-placed t (ix .numbered .sized) isRecall (oneRecall t) (and-r each once e) p h r)))
+
+  by-part : t6 t ≡ (each && once && recalled)
+  unfolding t6
+  by-part = ap (λ (b : Bool). b && recalled) recalls-by-part
+
+  pub not-each : each ≡ false → false ≡ t6 t
+  not-each e = sym (by-part ∙ ap (λ (b : Bool). b && once && recalled) e)
+
+  module _ (fits : (p : ℕ) → p < 256 → NameFits (getD (f .tickets) p free .other)) {keys : List ℕ} (keyed : keys ≡ map (targetKey numbers) (f .tickets)) where
+    not-once : (counts : ℕ → Bool) → counts 256 ≡ false → noTwo counts eqb keys ≡ false → false ≡ t6 t
+    not-once counts none e =
+        sym
+        (not-pass (λ s. and-r each once (and-l (each && once) recalled (sym by-part ∙ s)))
+        (not-pass (once-keys t (f .tickets) (f .lasts) numbers (ix .flat) (ix .numbered) fits counts none) (ap (noTwo counts eqb) (sym keyed) ∙ e)))
+
+    pub two-places : noTwo isPlace eqb keys ≡ false → false ≡ t6 t
+    two-places = not-once isPlace refl
+
+    pub two-dead : noTwo isDead eqb keys ≡ false → false ≡ t6 t
+    two-dead = not-once isDead refl
+
+    pub whole : each ≡ true → (marks : List ℕ) → Marked keys marks true → noTwo isDead eqb keys ≡ true → allAt (childMarked marks) 0 (f .tickets) ≡ t6 t
+    whole all marks m dead =
+        children-recalled t (f .tickets) (f .lasts) numbers (ix .flat) (ix .numbered) marks (λ p h. m .told refl p h ∙ ap (some (λ key. eqb key p)) keyed)
+        ∙ sym
+        (by-part ∙ ap (λ (b : Bool). b && once && recalled) all
+        ∙ ap (λ (b : Bool). b && recalled)
+        (keys-once t (f .tickets) (f .lasts) numbers (ix .flat) (ix .numbered) fits
+        (ap (noTwo isPlace eqb) (sym keyed) ∙ sym (m .once)) (ap (noTwo isDead eqb) (sym keyed) ∙ dead)))

@@ -1,0 +1,29 @@
+-- `note_of`: past the notes there is none, and 256 is what a list of 256 has there.
+use mathlib.Core.Path.{sym, _∙_}
+use native.Mathlib.Omega.{arith}
+use borrow.Author.Needs.{needs}
+use lib.ListN.{List·getD-eq-default}
+use Rattle.recall_order.proofs.OneRecall.{getD-any}
+use Rattle.recall_order.proofs.note_of.Statement.{statement}
+use Rattle.recall_order.proofs.note_of.Tie as tie
+use Rattle.recall_order.proofs.note_of.Reads as reads
+use Rattle.recall_order.proofs.note_of.Lts as lts
+use Rattle.recall_order.proofs.wide.Reads as wide-reads
+
+returns : tie.Need-returns
+returns c = sym (List·getD-eq-default (c .before .before .args .notes .now) 256 (omega (arith, c .before .before .pre, c .if1 .taken)))
+
+mul-wide : tie.Need-mul-wide
+mul-wide c = search needs
+
+shared-slice-read-wide : tie.Need-shared-slice-read-wide
+shared-slice-read-wide c = search needs
+
+wide-requires : tie.Need-wide-requires
+wide-requires c κs = search needs
+
+returns-2 : tie.Need-returns-2
+returns-2 c = c .wide .ensures ∙ getD-any (c .before .before .before .before .args .notes .now) (c .before .before .before .before .args .key) 0 256 (omega (arith, c .before .before .before .before .pre, c .before .before .if1 .left))
+
+pub note-of-spec : {M : Type 1} → statement M
+note-of-spec = tie.close (tie.spec returns mul-wide shared-slice-read-wide wide-requires returns-2)

@@ -1,0 +1,22 @@
+-- Tables laid out by place, and what T6 asks of one recall.
+use Prim.Native.Nat.{ℕ}
+use mathlib.Core.Path.{_≡_}
+use mathlib.Core.Bool.{Bool, _&&_}
+use mathlib.Core.List.{List}
+use Rattle.tables.specs.declared.{Name.Name, Ticket.Ticket, Entry.Entry, Tables.Tables}
+use Rattle.tables.specs.Lookup.{lookup}
+use Rattle.tables.specs.Chains.{ownName}
+use Rattle.tables.specs.Order.{recallParentOk, targetOk}
+use Rattle.index.specs.declared.Flat.{Flat}
+use Rattle.index.specs.Places.{Flattened, Numbered, Noted}
+
+-- f and es hold the tables t by place, and numbers and notes are an index of them
+pub record LaidOut (t : Tables) (f : Flat) (es : List Entry) (numbers notes : List ℕ) : Type 0 where
+  pub flat : Flattened t (f .tickets) (f .lasts)
+  pub entries : es ≡ t .entries
+  pub numbered : Numbered t numbers
+  pub noted : Noted t numbers notes
+
+-- what T6 asks of one recall by itself
+unfoldable pub recallHolds : Tables → Name → Ticket → Bool
+recallHolds t n k = recallParentOk (lookup t (ownName n k)) && targetOk t n k

@@ -1,0 +1,138 @@
+// T6: the recalls, over tickets laid out by place. One pass finds each recall's target and keeps its key, one tests each recall by
+// itself, and the keys tell whether a target has two recalls and whether every child has one.
+ghost use Prim.Native.Nat.{_+_, _*_, _<_};
+ghost use mathlib.Core.Path.{_≡_};
+ghost use mathlib.Core.Bool.{_&&_};
+ghost use mathlib.Core.List.{map};
+ghost use lib.ListN.{length, getD};
+ghost use Rattle.lists.specs.Tests.{between};
+ghost use Rattle.tables.specs.declared.Tables.{Tables};
+ghost use Rattle.tables.specs.Kinds.{isRecall};
+ghost use Rattle.tables.specs.Names.{isProgram};
+ghost use Rattle.tables.specs.Chains.{ownName};
+ghost use Rattle.tables.specs.Order.{everyTicket, t6};
+ghost use Rattle.index.specs.Places.{nameAt, Flattened, Numbered, Noted};
+ghost use Rattle.recall_marks.specs.Keys.{targetKey};
+ghost use Rattle.recall_order.specs.Recalls.{LaidOut, recallHolds};
+use index::Flat;
+use tables::Entry;
+use tables::Name;
+use tables::Ticket;
+
+fn wide(x: u16) -> usize
+    ensures { λ r. ⌜ r ≡ x ⌝ }
+{
+    x as usize
+}
+
+// The name of the grant that the recall at a place stands under.
+fn own_name(place: usize, k: Ticket) -> Name
+    requires { ⌜ place < 256 ⌝ }
+    ensures { λ r. ⌜ r ≡ ownName (nameAt place k) k ⌝ }
+{
+    Name {
+        pad: (place / 64) as u16,
+        program: (place / 8 % 8) as u16,
+        number: k.own,
+    }
+}
+
+// A name whose number its program was given: between 1 and the last.
+fn was_given(lasts: [u16; 32], n: Name) -> bool
+    ensures { λ r. ⌜ r ≡ (isProgram (n .pad) (n .program) && between 1 (getD lasts (8 * n .pad + n .program) 0) (n .number)) ⌝ }
+{
+    if 3 < n.pad {
+        return false;
+    }
+    if 7 < n.program {
+        return false;
+    }
+    let last = lasts[8 * wide(n.pad) + wide(n.program)];
+    rules::is_between(1, last, n.number)
+}
+
+// The place of the entry of a target, by its key; 256 where there is none.
+fn note_of(notes: &[u16], key: usize) -> usize
+    requires { ⌜ length (now notes) ≡ 256 ⌝ }
+    ensures { λ r. ⌜ r ≡ getD (now (notes .entry)) key 256 ⌝ }
+{
+    if 256 <= key {
+        return 256;
+    }
+    wide(notes[key])
+}
+
+// Each recall by itself: its parent is a grant with the pass on right, and its target a child of that grant, or a name on another pad whose
+// entry, if there is one, lies within the grant.
+fn each_holds(
+    f: Flat,
+    es: [Entry; 256],
+    numbers: &[u16],
+    notes: &[u16],
+    keys: &[usize; 256],
+) -> bool
+    requires { ⌜ (length (now numbers) ≡ 256) × ((length (now notes) ≡ 256) × (now keys ≡ map (targetKey (now numbers)) (f .tickets))) ⌝ }
+    ensures { λ r. ⌜ ((t : Tables) → LaidOut t f es (now (numbers .entry)) (now (notes .entry)) → r ≡ everyTicket isRecall (recallHolds t) t) ⌝ }
+{
+    let mut i: usize = 0;
+    while i < 256 {
+        let at = i;
+        let key = keys[at];
+        i = i + 1;
+        if key != 256 {
+            let k = f.tickets[at];
+            let own = own_name(at, k);
+            let target = k.other;
+            let place = index::place_of(numbers, own);
+            if 256 <= place {
+                return false;
+            }
+            let grant = f.tickets[place];
+            if !rules::recall_parent_ok(grant) {
+                return false;
+            }
+            if target.pad == own.pad {
+                if 256 < key {
+                    return false;
+                }
+                let child = f.tickets[key];
+                if !rules::is_child_of(own, child) {
+                    return false;
+                }
+            } else {
+                let lasts = f.lasts;
+                if !was_given(lasts, target) {
+                    return false;
+                }
+                let note = note_of(notes, key);
+                if note < 256 {
+                    let e = es[note];
+                    if !rules::far_entry_ok(grant, e) {
+                        return false;
+                    }
+                }
+            }
+        }
+    }
+    true
+}
+
+// T6, in tables whose numbers are distinct (T1) and whose entries are noted at their grants' places.
+pub fn recalls_ok(f: Flat, es: [Entry; 256], numbers: &[u16], notes: &[u16]) -> bool
+    requires { ⌜ (length (now numbers) ≡ 256) × (length (now notes) ≡ 256) ⌝ }
+    ensures { λ r. ⌜ ((t : Tables) → Flattened t (f .tickets) (f .lasts) → es ≡ t .entries → Numbered t (now (numbers .entry)) → Noted t (now (numbers .entry)) (now (notes .entry)) → r ≡ t6 t) ⌝ }
+{
+    let mut keys: [usize; 256] = [0; 256];
+    recall_marks::write_keys(f, numbers, &mut keys);
+    if !each_holds(f, es, numbers, notes, &keys) {
+        return false;
+    }
+    let mut marks: [u8; 256] = [0; 256];
+    if !recall_marks::mark_places(&keys, &mut marks) {
+        return false;
+    }
+    if !recall_marks::dead_once(&keys) {
+        return false;
+    }
+    recall_marks::children_marked(f, &marks)
+}

@@ -1,0 +1,4 @@
+mod Numbers
+mod Children
+mod Heads
+mod Programs
