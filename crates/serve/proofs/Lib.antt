@@ -1,0 +1,2 @@
+pub mod FromOrder
+pub mod Parts
