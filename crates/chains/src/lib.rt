@@ -7,7 +7,8 @@ ghost use lib.Dec.{eqb};
 ghost use Rattle.lists.specs.Lists.{firstIndex};
 ghost use Rattle.chains.specs.Walk.{endFrom, leadsTo};
 
-fn wide(x: u16) -> usize
+// A place as an index.
+pub fn wide(x: u16) -> usize
     ensures { λ r. ⌜ r ≡ x ⌝ }
 {
     x as usize

@@ -10,12 +10,6 @@ use index::Flat;
 use tables::Name;
 use tables::Ticket;
 
-fn wide(x: u16) -> usize
-    ensures { λ r. ⌜ r ≡ x ⌝ }
-{
-    x as usize
-}
-
 // The key of a target: its place, or where it has none a number above 256 of its own.
 fn key_of(place: usize, target: Name) -> usize
     ensures { λ r. ⌜ r ≡ keyOf place target ⌝ }
@@ -23,8 +17,8 @@ fn key_of(place: usize, target: Name) -> usize
     if place < 256 {
         return place;
     }
-    let program = wide(target.pad) * 65536 + wide(target.program);
-    257 + program * 65536 + wide(target.number)
+    let program = chains::wide(target.pad) * 65536 + chains::wide(target.program);
+    257 + program * 65536 + chains::wide(target.number)
 }
 
 // The key of a recall's target; 256 for any other ticket.

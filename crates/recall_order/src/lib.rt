@@ -19,12 +19,6 @@ use tables::Entry;
 use tables::Name;
 use tables::Ticket;
 
-fn wide(x: u16) -> usize
-    ensures { λ r. ⌜ r ≡ x ⌝ }
-{
-    x as usize
-}
-
 // The name of the grant that the recall at a place stands under.
 fn own_name(place: usize, k: Ticket) -> Name
     requires { ⌜ place < 256 ⌝ }
@@ -47,7 +41,7 @@ fn was_given(lasts: [u16; 32], n: Name) -> bool
     if 7 < n.program {
         return false;
     }
-    let last = lasts[8 * wide(n.pad) + wide(n.program)];
+    let last = lasts[8 * chains::wide(n.pad) + chains::wide(n.program)];
     rules::is_between(1, last, n.number)
 }
 
@@ -59,7 +53,7 @@ fn note_of(notes: &[u16], key: usize) -> usize
     if 256 <= key {
         return 256;
     }
-    wide(notes[key])
+    chains::wide(notes[key])
 }
 
 // Each recall by itself: its parent is a grant with the pass on right, and its target a child of that grant, or a name on another pad whose

@@ -10,7 +10,7 @@ use Rattle.recall_order.proofs.was_given.Statement.{statement}
 use Rattle.recall_order.proofs.was_given.Tie as tie
 use Rattle.recall_order.proofs.was_given.Reads as reads
 use Rattle.recall_order.proofs.was_given.Lts as lts
-use Rattle.recall_order.proofs.wide.Reads as wide-reads
+use Rattle.chains.proofs.wide.Reads as wide-reads
 use Rattle.rules.proofs.is_between.Reads as is-between-reads
 
 returns : tie.Need-returns
