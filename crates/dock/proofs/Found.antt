@@ -1,21 +1,16 @@
--- An entry found by its name, and an entry put in the lowest free place: what the place that a search ends at says.
+-- An entry found by its name: what the place that a search ends at says.
 use Prim.Native.Nat.{ℕ, _≤_}
 use mathlib.Core.Path.{_≡_, sym, ap, _∙_}
 use mathlib.Core.Bool.{true, false, _&&_}
 use mathlib.Core.List.{List}
-use lib.ListN.{length, getD, set, List·getD-eq-default}
-use lib.Seq.{set-out}
+use lib.ListN.{length, List·getD-eq-default}
 use Rattle.lists.specs.Lists.{firstIndex}
 use Rattle.lists.proofs.Tests.{contradiction, cannot-pass, both-ways, and-l, and-r, and-intro}
-use Rattle.tables.specs.declared.{Name.Name, Entry.Entry, Tables.Tables}
+use Rattle.tables.specs.declared.{Name.Name, Entry.Entry}
 use Rattle.tables.specs.Names.{eqName, noEntry}
 use Rattle.tables.specs.Lookup.{isNamed, entryIn}
-use Rattle.tables.specs.Change.{isSpare, putEntry}
 use Rattle.tables.proofs.NameLaws.{eqName-true}
-
--- the entry at a place
-abbrev pub at : List Entry → ℕ → Entry
-at es i = getD es i noEntry
+use Rattle.tables.proofs.ByPlace.{at}
 
 -- ---- is it named n?
 module _ (e : Entry) (n : Name) where
@@ -40,11 +35,3 @@ module _ (es : List Entry) (n : Name) (i : ℕ) (q : i ≡ firstIndex (isNamed n
 
   pub found-nowhere : length es ≤ i → noEntry ≡ entryIn es n
   found-nowhere b = sym (List·getD-eq-default es noEntry b) ∙ found-here
-
-module _ (t : Tables) (e : Entry) (i : ℕ) (q : i ≡ firstIndex isSpare (t .entries)) where
-  pub put-here : record { pads = t .pads; entries = set (t .entries) i e } ≡ putEntry t e
-  unfolding putEntry
-  put-here = ap (λ (j : ℕ). record { pads = t .pads; entries = set (t .entries) j e }) q
-
-  pub put-nowhere : length (t .entries) ≤ i → t ≡ putEntry t e
-  put-nowhere b = ap (λ (l : List Entry). record { pads = t .pads; entries = l }) (sym (set-out (t .entries) i e b)) ∙ put-here

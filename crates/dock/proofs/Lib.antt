@@ -1,5 +1,3 @@
 pub mod Found
 pub mod Refusals
-pub mod Runs
-pub mod Removal
 pub mod Laws

@@ -14,7 +14,6 @@ use Rattle.lists.proofs.Tests.{Case, pass, fail, case, cannot-pass, both-ways, 
 use Rattle.lists.proofs.Everywhere.{all-elim, noTwo-intro, noTwo-elim}
 use Rattle.lists.proofs.Keyed.{nothing-found}
 use Rattle.tables.specs.declared.{Name.Name, Ticket.Ticket, Entry.Entry, Tables.Tables}
-use Rattle.tables.specs.Kinds.{isLive, isHead, isTaken, isReceived}
 use Rattle.tables.specs.Names.{eqName, free, noEntry}
 use Rattle.tables.specs.Lookup.{ticketsOf, lookup}
 use Rattle.tables.specs.Order.{everyEntry, entryNamesOk, underStore, grantOk}
@@ -24,6 +23,7 @@ use Rattle.tables.proofs.Keys.{ticketKeys, ticketLaws, lookup-keyed}
 use Rattle.index.specs.Places.{nameAt, placed, placeIn, Flattened, Numbered}
 use Rattle.index.proofs.Laws.{lookup-place, place-most, place-found, live-place}
 use Rattle.entry_notes.specs.Notes.{everyLive, placeOf, hasGrant, namesApart}
+use Rattle.tables.specs.Kinds.{isLive, isHead, isTaken, isReceived}
 
 -- ---- an entry and its grant
 pub record Suits (e : Entry) (k : Ticket) : Type 0 where

@@ -11,6 +11,7 @@ use borrow.Author.Tests.{eqb-true, eqb-false, ltb-true, ltb-false}
 use Rattle.lists.specs.Lists.{firstIndex}
 use Rattle.lists.proofs.Tests.{Case, pass, fail, case, cannot-pass}
 use Rattle.lists.proofs.Keyed.{distinct-intro, found-low, found-key, found-at, nothing-found}
+use Rattle.lists.proofs.Reading.{any-default}
 use Rattle.tables.specs.declared.{Name.Name, Entry.Entry, Tables.Tables}
 use Rattle.tables.specs.Names.{noEntry}
 use Rattle.tables.specs.Lookup.{isNamed, entryIn, entryOf}
@@ -19,7 +20,6 @@ use Rattle.tables.proofs.Keys.{entryKeys, entryLaws, entry-keyed}
 use Rattle.index.specs.Places.{placeIn, Numbered, Noted}
 use Rattle.index.proofs.Laws.{place-most}
 use Rattle.entry_notes.specs.Notes.{NotesOf, noteOf, entryBy}
-use Rattle.entry_notes.proofs.Reading.{any-default}
 use Rattle.entry_notes.proofs.Grants.{grantsOk, entryAt, one-name}
 
 module _ (t : Tables) (n : Name) where

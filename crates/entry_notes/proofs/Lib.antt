@@ -1,4 +1,3 @@
-pub mod Reading
 mod Noting
 mod NoteSteps
 pub mod Grants

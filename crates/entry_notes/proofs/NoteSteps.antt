@@ -3,10 +3,10 @@ use Prim.Native.Nat.{ℕ, _≤_, _<_}
 use mathlib.Core.Path.{_≡_, sym, ap, _∙_}
 use mathlib.Core.List.{List}
 use lib.ListN.{length, getD, List·getD-eq-default}
+use Rattle.lists.proofs.Reading.{any-default}
 use Rattle.tables.specs.declared.Name.{Name}
 use Rattle.index.specs.Places.{placeIn}
 use Rattle.entry_notes.specs.Notes.{noteOf}
-use Rattle.entry_notes.proofs.Reading.{any-default}
 
 module _ (numbers notes : List ℕ) (n : Name) (p : ℕ) (e : p ≡ placeIn numbers n) where
   pub note-none : length notes ≤ p → 256 ≡ noteOf numbers notes n

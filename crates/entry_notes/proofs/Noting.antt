@@ -14,11 +14,11 @@ use borrow.Author.Count.{below-more}
 use Rattle.lists.specs.Tests.{implies}
 use Rattle.lists.proofs.Tests.{Case, pass, fail, case, no-true, contradiction, cannot-pass, and-l, and-r, and-intro, implies-intro, implies-elim}
 use Rattle.lists.proofs.Everywhere.{all-intro, all-elim, noTwo-intro, noTwo-elim}
+use Rattle.lists.proofs.Reading.{same-all}
 use Rattle.tables.specs.declared.{Ticket.Ticket, Entry.Entry}
 use Rattle.tables.specs.Names.{free, noEntry}
 use Rattle.tables.specs.Order.{underStore, grantOk}
 use Rattle.entry_notes.specs.Notes.{everyLive, placeOf, hasGrant, namesApart, Noter, NotesOf, Noting}
-use Rattle.entry_notes.proofs.Reading.{same-all}
 
 -- the free record is no grant
 no-grant : (e : Entry) → grantOk e free ≡ false
@@ -122,7 +122,8 @@ module _ (tickets : List Ticket) (numbers : List ℕ) (es : List Entry) where
           grants = below-more (λ j. at j .live ≡ true → has (at j) ≡ true) i (so .grants) (λ l. grant);
           kept = record {
             long = length-set notes p i ∙ so .kept .long;
-            noted = below-more (λ j. at j .live ≡ true → getD (set notes p i) (placeOf numbers (at j)) 256 ≡ j) i before (λ l. ap (λ (x : ℕ). getD (set notes p i) x 256) (sym here) ∙ new);
+            noted = below-more (λ j. at j .live ≡ true → getD (set notes p i) (placeOf numbers (at j)) 256 ≡ j) i before
+                (λ l. ap (λ (x : ℕ). getD (set notes p i) x 256) (sym here) ∙ new);
             noter = λ q ne. noter-at q ne (case (eqb q p));
           };
         }

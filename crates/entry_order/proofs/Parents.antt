@@ -12,6 +12,7 @@ use Rattle.lists.specs.Tests.{implies}
 use Rattle.lists.specs.Lists.{all, allAt}
 use Rattle.lists.proofs.Tests.{Case, pass, fail, case, no-true, and-l, and-r, and-intro, both-ways, not-test, implies-intro, implies-elim}
 use Rattle.lists.proofs.Everywhere.{all-intro, all-elim, allAt-intro, allAt-elim}
+use Rattle.lists.proofs.Reading.{any-default}
 use Rattle.tables.specs.declared.{Name.Name, Entry.Entry, Tables.Tables}
 use Rattle.tables.specs.Names.{noName, isNone, isProgram, noEntry}
 use Rattle.tables.specs.Lookup.{entryOf}
@@ -21,11 +22,11 @@ use Rattle.tables.proofs.ByPlace.{found-name}
 use Rattle.chains.specs.Walk.{endFrom}
 use Rattle.index.specs.Places.{placeIn, Numbered, Noted}
 use Rattle.entry_notes.specs.Notes.{noteOf, entryBy}
-use Rattle.entry_order.proofs.Settling.{end-stops, end-climbs}
-use Rattle.entry_order.specs.Parents.{isHung, hasParent, upOf, allEnd}
-use Rattle.entry_notes.proofs.Reading.{any-default}
 use Rattle.entry_notes.proofs.Grants.{entryAt}
 use Rattle.entry_notes.proofs.Laws.{entry-here, entry-noted}
+use Rattle.chain_ends.specs.Ends.{allEnd}
+use Rattle.chain_ends.proofs.Settling.{end-stops, end-climbs}
+use Rattle.entry_order.specs.Parents.{isHung, hasParent, upOf}
 
 -- "A parent entry is live, has the pass on right and contains the entry's sheets and rights."
 abbrev pub parentsOk : Tables → Bool

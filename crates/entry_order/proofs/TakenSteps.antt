@@ -7,10 +7,10 @@ use lib.Dec.{ltb}
 use lib.ListN.{length, getD}
 use borrow.Author.Tests.{lt-ltb, le-ltb}
 use Rattle.lists.specs.Tests.{implies}
+use Rattle.lists.proofs.Reading.{any-default}
 use Rattle.tables.specs.declared.Ticket.{Ticket}
-use Rattle.tables.specs.Kinds.{isTaken}
-use Rattle.entry_notes.proofs.Reading.{any-default}
 use Rattle.entry_order.specs.Order.{hasNote}
+use Rattle.tables.specs.Kinds.{isTaken}
 
 module _ (notes : List ℕ) (p : ℕ) (k : Ticket) where
   pub not-taken : isTaken (k .kind) ≡ false → hasNote notes p k ≡ true

@@ -13,7 +13,6 @@ use Rattle.lists.specs.Lists.{allAt}
 use Rattle.lists.proofs.Tests.{Case, pass, fail, case, no-true, contradiction, cannot-pass, both-ways, and-l, and-r, and-intro, implies-intro, implies-elim}
 use Rattle.lists.proofs.Everywhere.{all-intro, all-elim, allAt-intro, allAt-elim}
 use Rattle.tables.specs.declared.{Ticket.Ticket, Entry.Entry, Tables.Tables}
-use Rattle.tables.specs.Kinds.{isGrant, isTaken}
 use Rattle.tables.specs.Names.{free, noEntry}
 use Rattle.tables.specs.Lookup.{lookup, entryOf}
 use Rattle.tables.specs.Chains.{chainRoot}
@@ -22,13 +21,14 @@ use Rattle.tables.proofs.KindLaws.{head-grant, live-taken}
 use Rattle.index.specs.Places.{placed, nameAt, placeIn, Flattened, Numbered, Noted}
 use Rattle.index.proofs.Laws.{every-placed, placed-every, lookup-place, name-place}
 use Rattle.entry_notes.specs.Notes.{everyLive, hasGrant, namesApart, NotesOf, Noting, noteOf}
-use Rattle.entry_order.specs.Parents.{Linking, allEnd}
-use Rattle.entry_order.specs.Order.{hasNote, takenNoted}
-use Rattle.entry_order.specs.Runs.{Spanned, rootsIn}
-use Rattle.entry_order.specs.Order.{EntryOrder}
 use Rattle.entry_notes.proofs.Grants.{grantsOk, entryAt, grant-at, grants-told, names-told, has-place}
 use Rattle.entry_notes.proofs.Laws.{noted-all, entry-noted}
+use Rattle.chain_ends.specs.Ends.{allEnd}
+use Rattle.roots.specs.Marks.{Spanned, rootsIn}
+use Rattle.entry_order.specs.Parents.{Linking}
+use Rattle.entry_order.specs.Order.{hasNote, takenNoted, EntryOrder}
 use Rattle.entry_order.proofs.Parents.{parentsOk, chainsOk, parents-told, chains-told}
+use Rattle.tables.specs.Kinds.{isGrant, isTaken}
 
 -- ---- the parts of T5
 -- "Every taken grant has its entry."

@@ -1,4 +1,2 @@
 pub mod Parents
-pub mod Ends
-pub mod Runs
 pub mod Order

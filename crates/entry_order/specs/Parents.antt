@@ -1,14 +1,12 @@
--- The parents of entries by places, and their chains.
+-- The parents of entries by places.
 use Prim.Native.Nat.{ℕ}
 use mathlib.Core.Path.{_≡_}
 use mathlib.Core.Bool.{Bool, true, not, _&&_, cond}
 use mathlib.Core.List.{List, map}
-use lib.Dec.{ltb}
 use Rattle.lists.specs.Tests.{implies}
-use Rattle.lists.specs.Lists.{all, allAt}
+use Rattle.lists.specs.Lists.{all}
 use Rattle.tables.specs.declared.Entry.{Entry}
 use Rattle.tables.specs.Order.{underStore, parentEntryOk}
-use Rattle.chains.specs.Walk.{endFrom}
 use Rattle.entry_notes.specs.Notes.{noteOf, entryBy}
 
 -- the entry hangs under another
@@ -27,7 +25,3 @@ upOf numbers notes e = cond (isHung e) (noteOf numbers notes (e .parent)) 256
 pub record Linking (numbers notes : List ℕ) (es : List Entry) (up : List ℕ) (r : Bool) : Type 0 where
   pub same : r ≡ all (hasParent numbers notes es) es
   pub ups : r ≡ true → up ≡ map (upOf numbers notes) es
-
--- the chain from each place ends
-unfoldable pub allEnd : List ℕ → Bool
-allEnd up = allAt (λ i next. ltb (endFrom 256 up i) 256) 0 up

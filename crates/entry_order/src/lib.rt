@@ -1,14 +1,11 @@
-// T5 as code, beside the notes: the entries' parents, their chains, the sheets of those under the store, and the taken grants' entries.
+// T5 past the notes: the entries' parents, their chains, the sheets of those under the store, and the taken grants' entries.
 ghost use mathlib.Core.Path.{_≡_};
 ghost use mathlib.Core.Bool.{true};
-ghost use Prim.Native.Nat.{_+_, _≤_, _<_};
 ghost use lib.ListN.{length, replicate};
 ghost use Rattle.tables.specs.declared.Tables.{Tables};
 ghost use Rattle.tables.specs.Order.{t2};
 ghost use Rattle.index.specs.Places.{Flattened, Numbered};
-ghost use Rattle.entry_order.specs.Parents.{isHung, Linking, allEnd};
-ghost use Rattle.entry_order.specs.Ends.{Settled};
-ghost use Rattle.entry_order.specs.Runs.{Marked, Spanned, rootsIn};
+ghost use Rattle.entry_order.specs.Parents.{isHung, Linking};
 ghost use Rattle.entry_order.specs.Order.{takenNoted, EntryOrder};
 use index::Flat;
 use tables::Entry;
@@ -52,86 +49,6 @@ fn link_entries(es: [Entry; 256], numbers: &[u16], notes: &[u16], up: &mut [u16]
     true
 }
 
-// Does the chain from a place end? Its links are cut behind the walk, so that no link is followed twice.
-fn settle(up: &mut [u16], at: usize, left: usize) -> bool
-    requires { ⌜ (length (now up) ≡ 256) × (at < 256) ⌝ }
-    ensures { λ r. ⌜ Settled (now (up .entry)) (now (up .exit)) at left r ⌝ }
-{
-    if left == 0 {
-        return false;
-    }
-    let next = up[at];
-    if 256 <= next {
-        return true;
-    }
-    if !settle(up, next as usize, left - 1) {
-        return false;
-    }
-    up[at] = 256;
-    true
-}
-
-// Every chain of parents ends. What was found to end is cut off.
-fn chains_end(up: &mut [u16]) -> bool
-    requires { ⌜ length (now up) ≡ 256 ⌝ }
-    ensures { λ r. ⌜ r ≡ allEnd (now (up .entry)) ⌝ }
-{
-    let mut i: usize = 0;
-    while i < 256 {
-        let at = i;
-        i = i + 1;
-        if up[at] < 256 {
-            if !settle(up, at, 256) {
-                return false;
-            }
-        }
-    }
-    true
-}
-
-// Marks the sheets of a run. The answer is no where one of them is marked already.
-fn mark(marks: &mut [u8], first: usize, count: usize) -> bool
-    requires { ⌜ first + count ≤ length (now marks) ⌝ }
-    ensures { λ r. ⌜ Marked first count (now (marks .entry)) (now (marks .exit)) r ⌝ }
-{
-    let mut i: usize = 0;
-    while i < count {
-        let s = first + i;
-        i = i + 1;
-        if marks[s] != 0 {
-            return false;
-        }
-        marks[s] = 1;
-    }
-    true
-}
-
-// Entries directly under the store share no sheet: their sheets are marked one after the other. T2 has no run past the store.
-fn roots_apart(es: [Entry; 256]) -> bool
-    ensures { λ r. ⌜ (Spanned es → r ≡ rootsIn es) ⌝ }
-{
-    let mut marks: [u8; 256] = [0; 256];
-    let mut i: usize = 0;
-    while i < 256 {
-        let e = es[i];
-        i = i + 1;
-        if e.live {
-            let up = e.parent;
-            if up.number == 0 {
-                let first = e.first as usize;
-                let count = e.count as usize;
-                if 256 < first + count {
-                    return false;
-                }
-                if !mark(&mut marks, first, count) {
-                    return false;
-                }
-            }
-        }
-    }
-    true
-}
-
 // Every taken grant has its entry.
 fn taken_ok(f: Flat, notes: &[u16]) -> bool
     requires { ⌜ length (now notes) ≡ 256 ⌝ }
@@ -164,10 +81,10 @@ pub fn entries_ok(f: Flat, es: [Entry; 256], numbers: &[u16], notes: &mut [u16])
     if !link_entries(es, numbers, notes, &mut up) {
         return false;
     }
-    if !chains_end(&mut up) {
+    if !chain_ends::chains_end(&mut up) {
         return false;
     }
-    if !roots_apart(es) {
+    if !roots::roots_apart(es) {
         return false;
     }
     taken_ok(f, notes)

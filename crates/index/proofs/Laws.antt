@@ -1,21 +1,20 @@
 -- The numbers of all places are an index of the tickets by name: in tables whose live numbers are distinct and not 0 (T1), a name finds
 -- what stands at its place, and a live ticket's place is its name's. And a test of every ticket is a test of every place.
 use Prim.Native.Nat.{ℕ, _+_, _*_, _/_, _%_, _≤_, _<_}
+use native.Mathlib.Omega.{arith}
 use mathlib.Core.Path.{_≡_, refl, sym, ap, _∙_, subst}
 use mathlib.Core.Logic.{_⊎_, inl, inr}
 use mathlib.Core.Bool.{Bool, true, false, _&&_, cond}
 use mathlib.Core.List.{List, map}
-use native.Mathlib.Omega.{arith}
-use borrow.Author.Tests.{ltb-true, ltb-false, eqb-true, eqb-false, eq-eqb, ne-eqb}
 use lib.Dec.{ltb, eqb}
 use lib.ListN.{length, getD, take, drop, length-drop, length-map, List·getD-map, List·getD-eq-default}
 use lib.Seq.{length-take-le, getD-take, getD-drop, ext-getD}
+use borrow.Author.Tests.{ltb-true, ltb-false, eqb-true, eqb-false, eq-eqb, ne-eqb}
 use Rattle.lists.specs.Lists.{firstIndex}
 use Rattle.lists.proofs.Tests.{Case, pass, fail, case, and-l, and-r, and-intro, cannot-pass, no-true}
 use Rattle.lists.proofs.Search.{find-passes, first-bound, first-same, first-map}
 use Rattle.lists.proofs.Keyed.{nothing-found}
 use Rattle.tables.specs.declared.{Name.Name, Kind.Kind, Ticket.Ticket, Pad.Pad, Tables.Tables}
-use Rattle.tables.specs.Kinds.{isLive}
 use Rattle.tables.specs.Names.{nameOf, free, noPad, noProgram}
 use Rattle.tables.specs.Lookup.{Sized, ticketsOf, hasNumber, ticketIn, lookup}
 use Rattle.tables.specs.Order.{everyTicket, someTicket}
@@ -25,6 +24,7 @@ use Rattle.tables.proofs.ByPlace.{ticketAt, place-low, found-number, name-in-ra
 use Rattle.index.specs.Places.{placed, nameAt, numberOf, startOf, placeIn, Numbered}
 use Rattle.index.proofs.Laying.{at-place}
 use Rattle.index.proofs.PlaceSteps.{no-pad, no-program, no-number, not-there, is-there}
+use Rattle.tables.specs.Kinds.{isLive}
 
 -- ---- every ticket, or some, by place
 module _ (t : Tables) (z : Sized t) (kinds : Kind → Bool) (test : Name → Ticket → Bool) where

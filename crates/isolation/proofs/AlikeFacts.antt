@@ -1,16 +1,15 @@
 -- What two alike states have in common: the group's tickets and entries but for their first sheet, its free places, and what its tickets
 -- and entries reach. And the relation may change sides.
 use Prim.Native.Nat.{ℕ, suc, _<_}
+use native.Mathlib.Omega.{arith}
 use mathlib.Core.Path.{_≡_, refl, sym, ap, _∙_}
 use mathlib.Core.Bool.{Bool, true, false, _||_, cond}
 use mathlib.Core.List.{List, [], _∷_, map}
-use native.Mathlib.Omega.{arith}
 use lib.ListN.{getD, List·getD-map}
 use Rattle.lists.specs.Lists.{firstIndex, some}
 use Rattle.lists.proofs.Tests.{cannot-fail, contradiction}
 use Rattle.tables.specs.declared.{Name.Name, Kind.Kind, Ticket.Ticket, Program.Program, Entry.Entry}
 use Rattle.tables.specs.declared.Kind.the-variants.{Free, Taken, Received, Child, Recall}
-use Rattle.tables.specs.Kinds.{isGrant}
 use Rattle.tables.specs.Names.{isNone, free}
 use Rattle.tables.specs.Lookup.{ticketsOf, hasNumber, ticketIn, lookup, entryOf}
 use Rattle.tables.specs.Chains.{parentBy, parentOf, atOrUnder, entryParent, atOrBelow}
@@ -24,6 +23,7 @@ use Rattle.preservation.proofs.Walks.{reaches-same}
 use Rattle.preservation.proofs.ChainSteps.{entry-fits}
 use Rattle.isolation.specs.Alike.{blur, blurEntry, Mine, Alike, Quiet, sheetIn, Parted}
 use Rattle.isolation.proofs.Sides.{parent-side, dock-side}
+use Rattle.tables.specs.Kinds.{isGrant}
 
 -- a sheet of the group's is a sheet of the store
 pub mine-low : (g : Group) (s : State) → Parted g s → {n : Name} {a : ℕ} → Mine g (s .tables) n a → sheetIn (s .tables) n a < 256

@@ -3,11 +3,11 @@
 -- cannot be made stronger: where the sheets lie may differ.
 -- The group is program 0 of pad 0; the others' part is played by program 1.
 use Prim.Native.Nat.{ℕ}
+use native.Mathlib.Omega.{arith}
 use mathlib.Core.Path.{_≡_, refl, ap, sym, _∙_}
 use mathlib.Core.Logic.{_↔_}
 use mathlib.Core.Bool.{true, _&&_, xor}
 use mathlib.Core.List.{List, [], _∷_}
-use native.Mathlib.Omega.{arith}
 use lib.Dec.{eqb}
 use lib.ListN.{getD, replicate}
 use Rattle.lists.specs.Tests.{implies, between}
@@ -18,8 +18,7 @@ use Rattle.tables.specs.Names.{nameOf, eqName, isProgram, sameProgram, emptyTab
 use Rattle.tables.specs.Lookup.{hasNumber, ticketIn, lookup, isNamed, entryIn}
 use Rattle.tables.specs.Chains.{reaches, endOf}
 use Rattle.tables.specs.Sheets.{apart, inside, outside, isFreeRun, lowestRun, hasRun}
-use Rattle.tables.specs.Order.{everyTicketOf, everyTicket, someTicketOf, someTicket, everyEntry, numbersOk, t1, spanOk, t2, parentOk, childOk, t3, t4}
-use Rattle.tables.specs.Order.{entryNamesOk, grantOk, parentEntryOk, entryOk, rootsOk, t5, recallParentOk, isChildOf, farTargetOk, targetOk, recallOk, t6, inOrder}
+use Rattle.tables.specs.Order.{everyTicketOf, everyTicket, someTicketOf, someTicket, everyEntry, numbersOk, t1, spanOk, t2, parentOk, childOk, t3, t4, entryNamesOk, grantOk, parentEntryOk, entryOk, rootsOk, t5, recallParentOk, isChildOf, farTargetOk, targetOk, recallOk, t6, inOrder}
 use Rattle.tables.specs.Change.{isFree, hasPlace, withTicket, withProgram, give, isSpare, putEntry}
 use Rattle.machine.specs.declared.{Request.Request, Answer.Answer}
 use Rattle.machine.specs.State.{answerOf, accepted, refused, withTables, sheetAt, putSheets, clearSheets}

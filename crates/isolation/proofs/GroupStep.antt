@@ -1,18 +1,17 @@
 -- The group's own request, served from two alike states: the answers agree, an accepted read leaves the same bytes, and the states that are
 -- left are alike. One lemma for each operation and for the drop on 12, then all of them by the refusal's number.
 use Prim.Native.Nat.{ℕ, suc, _+_, _*_, _-_, _≤_}
+use native.Mathlib.Omega.{arith}
 use mathlib.Core.Path.{_≡_, refl, sym, ap, _∙_, subst}
 use mathlib.Core.Logic.{_↔_}
 use mathlib.Core.Bool.{Bool, true, false, _||_}
 use mathlib.Core.List.{List}
-use native.Mathlib.Omega.{arith}
 use lib.Dec.{eqb}
 use lib.ListN.{length, replicate, length-replicate}
 use borrow.Author.Tests.{eqb-true, eqb-false}
 use Rattle.lists.specs.Tests.{between}
 use Rattle.lists.proofs.Tests.{Case, pass, fail, case}
 use Rattle.tables.specs.declared.{Name.Name, Tables.Tables}
-use Rattle.tables.specs.Kinds.{isTaken}
 use Rattle.tables.specs.Names.{eqName}
 use Rattle.tables.specs.Lookup.{lookup, entryOf}
 use Rattle.tables.specs.Chains.{atOrUnder, chainHead, atOrBelow}
@@ -44,6 +43,7 @@ use Rattle.isolation.proofs.SameChange.{alike-put, alike-removed, alike
 use Rattle.isolation.proofs.SameRefusal.{access-same, recall-same, give-back-same, pass-same, take-same}
 use Rattle.isolation.proofs.SameTake.{alike-take}
 use Rattle.isolation.proofs.SamePass.{alike-pass}
+use Rattle.tables.specs.Kinds.{isTaken}
 
 -- what the group sees of two outcomes, and the states that they leave
 pub record Agreed (g : Group) (r : Request) (o p : Outcome) : Type 0 where

@@ -2,11 +2,11 @@
 -- programs, entries and bytes exactly as they were. One lemma for each operation and for the drop on 12. That the dock is in order
 -- afterwards is known (preservation) and handed to each.
 use Prim.Native.Nat.{ℕ, _+_, _*_, _≤_, _<_}
+use native.Mathlib.Omega.{arith}
 use mathlib.Core.Path.{_≡_, refl, sym, ap, _∙_, subst}
 use mathlib.Core.Logic.{_⊎_, inl, inr}
 use mathlib.Core.Bool.{Bool, true, false, _||_, cond}
 use mathlib.Core.List.{map}
-use native.Mathlib.Omega.{arith}
 use lib.Dec.{eqb}
 use lib.ListN.{length, getD, replicate, length-replicate, length-map}
 use lib.Seq.{ext-getD}
@@ -14,7 +14,6 @@ use borrow.Author.Tests.{eqb-true, eqb-false}
 use Rattle.lists.proofs.Tests.{Case, pass, fail, case, no-true}
 use Rattle.lists.proofs.Keyed.{found-somewhere, drop-none, dropped-at}
 use Rattle.tables.specs.declared.{Name.Name, Entry.Entry, Tables.Tables}
-use Rattle.tables.specs.Kinds.{isLive, isTaken, isRecall}
 use Rattle.tables.specs.Names.{nameOf, eqName, sameProgram, free, noEntry}
 use Rattle.tables.specs.Lookup.{programAt, ticketsOf, hasNumber, ticketIn, lookup, entryOf}
 use Rattle.tables.specs.Chains.{atOrUnder, chainHead, atOrBelow}
@@ -50,6 +49,7 @@ use Rattle.isolation.proofs.Edge.{is-outside, on-one-side}
 use Rattle.isolation.proofs.Sides.{dock-side, not-under, not-below, sides-apart}
 use Rattle.isolation.proofs.AlikeFacts.{mine-low}
 use Rattle.isolation.proofs.UnlinkedKept.{unlinked-removed, unlinked-take, unlinked-near, unlinked-far}
+use Rattle.tables.specs.Kinds.{isLive, isTaken, isRecall}
 
 -- ---- removal that spares the group
 cond-both : {A : Type 0} (b : Bool) (x : A) → cond b x x ≡ x
@@ -272,7 +272,8 @@ module _ (g : Group) (s : State) (parted : Parted g s) where
           let p : Past t r 0 = past-request t r 0 late-0 (eqb-true (requestRefusal t r) 0 e) in
           let o = is-outside g r f (p .pad) (p .program) in
           rw e
-          (quiet-own r o buf (operationOf (r .op)) (p .pad) (p .program) (p .fields) (λ w m. on-one-side g r c (sym (p .number) ∙ w) (m .pad) (m .program) (m .topad) (m .toprogram) ∙ o) (p .own) (rw e at dock))
+          (quiet-own r o buf (operationOf (r .op)) (p .pad) (p .program) (p .fields)
+          (λ w m. on-one-side g r c (sym (p .number) ∙ w) (m .pad) (m .program) (m .topad) (m .toprogram) ∙ o) (p .own) (rw e at dock))
       go dock (fail d) (pass e) =
           let p : Past t r 12 = past-request t r 12 late-12 (eqb-true (requestRefusal t r) 12 e) in
           rw (d, e) (quiet-drop r (is-outside g r f (p .pad) (p .program)) (stale-of t r p) (rw (d, e) at dock))

@@ -1,17 +1,16 @@
 -- The same change on both sides keeps two states alike: the same bytes put at the same offset of an entry, and the same tickets and
 -- entries removed.
 use Prim.Native.Nat.{ℕ, _+_, _*_, _-_, _≤_, _<_}
+use native.Mathlib.Omega.{arith}
 use mathlib.Core.Path.{_≡_, refl, sym, ap, _∙_, subst}
 use mathlib.Core.Logic.{_⊎_, inl, inr}
 use mathlib.Core.Bool.{Bool, true, false, _&&_, cond}
 use mathlib.Core.List.{List, [], _∷_, map}
-use native.Mathlib.Omega.{arith}
 use lib.Dec.{ltb}
 use lib.ListN.{length}
 use borrow.Author.Tests.{ltb-true, ltb-false}
 use Rattle.lists.proofs.Tests.{Case, pass, fail, case}
 use Rattle.tables.specs.declared.{Name.Name, Ticket.Ticket, Tables.Tables}
-use Rattle.tables.specs.Kinds.{isLive, isGrant}
 use Rattle.tables.specs.Names.{nameOf, free, noEntry}
 use Rattle.tables.specs.Lookup.{ticketsOf, lookup, entryOf}
 use Rattle.tables.specs.Change.{dropTicket, dropTickets}
@@ -28,6 +27,7 @@ use Rattle.isolation.specs.Alike.{blur, blurEntry, Mine, sheetIn, Alike}
 use Rattle.isolation.proofs.Sides.{dock-side}
 use Rattle.isolation.proofs.AlikeFacts.{mine-there, mine-low, same-live, same-entry-count}
 use Rattle.isolation.proofs.UnlinkedKept.{removed-ticket, removed-entry, unlinked-removed}
+use Rattle.tables.specs.Kinds.{isLive, isGrant}
 
 -- ---- the same bytes vs, c sheets of them, put at the offset o of the entry d
 module _ (g : Group) (s u : State) (al : Alike g s u) (d : Name) (own : owns g d ≡ true) (live : entryOf (s .tables) d .live ≡ true)

@@ -1,18 +1,17 @@
 -- A pass on both sides keeps two states alike: the two new names are equal on both, and the new grant lies at the same offset of the entry
 -- that it comes from. To another pad the new entry is a part of an old one, at the same offset on both sides.
 use Prim.Native.Nat.{ℕ, suc, _+_, _-_, _≤_}
+use native.Mathlib.Omega.{arith}
 use mathlib.Core.Path.{_≡_, refl, sym, ap, _∙_}
 use mathlib.Core.Logic.{_↔_}
 use mathlib.Core.Bool.{true}
 use mathlib.Core.List.{map}
-use native.Mathlib.Omega.{arith}
 use lib.Dec.{eqb}
 use borrow.Author.Tests.{eqb-true, eqb-false}
 use Rattle.lists.proofs.Tests.{Case, pass, fail, case, no-true}
 use Rattle.rights.specs.Rules.{rightsOf}
 use Rattle.tables.specs.declared.{Name.Name, Ticket.Ticket, Program.Program, Tables.Tables}
 use Rattle.tables.specs.declared.Kind.the-variants.{Received, Child}
-use Rattle.tables.specs.Kinds.{isGrant}
 use Rattle.tables.specs.Names.{eqName, sameProgram, grantTicket, headTicket, recallTicket, entryFor}
 use Rattle.tables.specs.Lookup.{ticketsOf, lastOf, lookup, entryOf}
 use Rattle.tables.proofs.NameLaws.{name-eq, eqName-true, eqName-ne, program-same}
@@ -31,6 +30,7 @@ use Rattle.isolation.proofs.Sides.{dock-side}
 use Rattle.isolation.proofs.AlikeFacts.{same-dock}
 use Rattle.isolation.proofs.SameTake.{put-both}
 use Rattle.isolation.proofs.UnlinkedKept.{unlinked-near, unlinked-far}
+use Rattle.tables.specs.Kinds.{isGrant}
 
 module _ (g : Group) (s u : State) (al : Alike g s u) (r : Request) (mine : g (r .pad) (r .program) ≡ true) (theirs : g (r .topad) (r .toprogram) ≡ true)
     (may : MayPass (s .tables) r) (may₂ : MayPass (u .tables) r) where

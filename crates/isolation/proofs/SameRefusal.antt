@@ -1,15 +1,14 @@
 -- The group's request gets the same refusal in two alike states: every test looks only at what they have in common. For a take, 11 must
 -- come on both sides or on neither.
 use Prim.Native.Nat.{ℕ}
+use native.Mathlib.Omega.{arith}
 use mathlib.Core.Path.{_≡_, sym, ap, _∙_}
 use mathlib.Core.Logic.{_↔_}
 use mathlib.Core.Bool.{true, not}
-use native.Mathlib.Omega.{arith}
 use lib.Dec.{leb}
 use Rattle.lists.specs.Tests.{between}
 use Rattle.lists.proofs.Tests.{Case, pass, fail, case}
 use Rattle.tables.specs.declared.Name.{Name}
-use Rattle.tables.specs.Kinds.{isLive, isGrant, isRecall}
 use Rattle.tables.specs.Lookup.{entryOf}
 use Rattle.tables.specs.Change.{hasPlace}
 use Rattle.tables.specs.Sheets.{hasRun}
@@ -27,6 +26,7 @@ use Rattle.preservation.proofs.DockCheck.{access-as-listed}
 use Rattle.isolation.specs.Alike.{Alike}
 use Rattle.isolation.proofs.Sides.{dock-side}
 use Rattle.isolation.proofs.AlikeFacts.{same-kind, same-count, same-rights, same-dock, same-live, same-place}
+use Rattle.tables.specs.Kinds.{isLive, isGrant, isRecall}
 
 module _ (g : Group) (s u : State) (al : Alike g s u) (r : Request) (mine : g (r .pad) (r .program) ≡ true) where
   -- ---- the asked ticket, where it is a grant, its entry, and the asker's numbers

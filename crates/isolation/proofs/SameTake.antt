@@ -1,11 +1,11 @@
 -- A take on both sides keeps two states alike. The new names are equal; the new sheets may lie elsewhere, but outside all entries on either
 -- side, so they overlap nothing and hold zeros on both.
 use Prim.Native.Nat.{ℕ, suc, _+_, _*_, _<_}
+use native.Mathlib.Omega.{arith}
 use mathlib.Core.Path.{_≡_, refl, sym, ap, _∙_}
 use mathlib.Core.Logic.{_↔_}
 use mathlib.Core.Bool.{true}
 use mathlib.Core.List.{List, map}
-use native.Mathlib.Omega.{arith}
 use lib.ListN.{set, replicate, length-replicate}
 use Rattle.lists.specs.Lists.{firstIndex}
 use Rattle.lists.proofs.Tests.{Case, pass, fail, case}
@@ -13,7 +13,6 @@ use Rattle.lists.proofs.Everywhere.{map-set}
 use Rattle.rights.specs.Rules.{rightsOf}
 use Rattle.tables.specs.declared.{Name.Name, Ticket.Ticket, Program.Program, Entry.Entry, Tables.Tables}
 use Rattle.tables.specs.declared.Kind.the-variants.{Taken}
-use Rattle.tables.specs.Kinds.{isGrant}
 use Rattle.tables.specs.Names.{noName, eqName, sameProgram, headTicket, entryFor}
 use Rattle.tables.specs.Lookup.{ticketsOf, lastOf, lookup, entryOf}
 use Rattle.tables.specs.Change.{isFree, newName}
@@ -33,6 +32,7 @@ use Rattle.preservation.proofs.StoreSheets.{sheet-kept, sheet-put}
 use Rattle.isolation.specs.Alike.{blur, blurEntry, Mine, sheetIn, Alike}
 use Rattle.isolation.proofs.AlikeFacts.{place-blur, mine-there, mine-low}
 use Rattle.isolation.proofs.UnlinkedKept.{unlinked-take}
+use Rattle.tables.specs.Kinds.{isGrant}
 
 -- ---- a ticket put in the lowest free place on both sides
 pub put-both : (ts us : List Ticket) (k k₂ : Ticket) → map blur ts ≡ map blur us → blur k ≡ blur k₂

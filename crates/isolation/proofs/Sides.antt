@@ -1,26 +1,26 @@
 -- Chains stay on their side: where no link joins the group to the others, a ticket's parent, its dock name and all that it reaches are on
 -- its own side, and entries of the two sides share no sheet.
 use Prim.Native.Nat.{ℕ, zero, suc, _+_, _≤_}
+use native.Mathlib.Omega.{arith}
 use mathlib.Core.Path.{_≡_, refl, sym, ap, _∙_}
 use mathlib.Core.Logic.{_⊎_, inl, inr}
 use mathlib.Core.Bool.{true, false}
-use native.Mathlib.Omega.{arith}
 use Rattle.lists.proofs.Tests.{no-true}
 use Rattle.tables.specs.declared.{Name.Name, Entry.Entry, Tables.Tables}
-use Rattle.tables.specs.Kinds.{isLive, isGrant, isHead, isChild, isRecall}
 use Rattle.tables.specs.Names.{eqName, isNone}
 use Rattle.tables.specs.Lookup.{lastOf, lookup, entryOf}
 use Rattle.tables.specs.Chains.{reaches, parentOf, atOrUnder, entryParent, atOrBelow}
 use Rattle.tables.specs.Order.{underStore}
 use Rattle.tables.proofs.KindLaws.{live-grant, grant-sort, up-child, up-recall, has-parent}
 use Rattle.tables.proofs.NameLaws.{eqName-false}
+use Rattle.tables.proofs.Links.{reaches-here, reaches-next}
 use Rattle.machine.specs.Sequence.{Group}
 use Rattle.machine.specs.Isolation.{owns, Unlinked}
 use Rattle.preservation.specs.Rules.{Apart, UnderOk, Ends, here, up}
 use Rattle.preservation.specs.InOrder.{InOrder}
-use Rattle.preservation.proofs.Walks.{reaches-here, reaches-next}
 use Rattle.preservation.proofs.RuleFacts.{child-up, child-linked, parent-grant}
 use Rattle.preservation.proofs.ChainSteps.{has-chain}
+use Rattle.tables.specs.Kinds.{isLive, isGrant, isHead, isChild, isRecall}
 
 module _ (g : Group) (t : Tables) (ok : InOrder t) (apart : Unlinked g t) where
   -- ---- parents and dock names

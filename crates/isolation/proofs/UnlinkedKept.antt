@@ -5,7 +5,6 @@ use mathlib.Core.Path.{_≡_, refl, sym, ap, _∙_}
 use mathlib.Core.Bool.{Bool, true, false}
 use Rattle.lists.proofs.Tests.{Case, pass, fail, case, no-true}
 use Rattle.tables.specs.declared.{Name.Name, Ticket.Ticket, Tables.Tables}
-use Rattle.tables.specs.Kinds.{isLive, isChild, isRecall}
 use Rattle.tables.specs.Names.{eqName}
 use Rattle.tables.specs.Lookup.{lookup, entryOf}
 use Rattle.tables.specs.Order.{underStore}
@@ -22,6 +21,7 @@ use Rattle.preservation.proofs.Removal.{ticket-survives, entry-survives}
 use Rattle.preservation.proofs.Taking.{TakeEffect}
 use Rattle.preservation.proofs.Passing.{MayPass, recallName, grantName, newChild, newReceived, PassEffect, pass-near, pass-near-entries, pass-far, pass-far-entry}
 use Rattle.isolation.proofs.Sides.{dock-side}
+use Rattle.tables.specs.Kinds.{isLive, isChild, isRecall}
 
 -- ---- removal: what is there after was there before
 module _ (gone cut : Name → Bool) (t : Tables) where

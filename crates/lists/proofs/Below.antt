@@ -1,10 +1,10 @@
 -- A test at every number below n, and the law that takes the test's computed value to each number. A table's rule is checked by
 -- computing the test once, and used at any number by the law.
 use Prim.Native.Nat.{ℕ, zero, suc, _<_}
+use native.Mathlib.Nat.{eq-or-lt-of-le, le-of-suc-le-suc, not-suc-le-zero}
 use mathlib.Core.Path.{_≡_, refl, sym, subst}
 use mathlib.Core.Logic.{⊎-elim}
 use mathlib.Core.Bool.{Bool, true, false, Bool·beq, cond}
-use native.Mathlib.Nat.{eq-or-lt-of-le, le-of-suc-le-suc, not-suc-le-zero}
 
 abbrev pub below : ℕ → (ℕ → Bool) → Bool
 below zero test = true

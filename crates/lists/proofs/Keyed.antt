@@ -2,11 +2,11 @@
 -- dock's entries are another (key: the name). The laws say what a key finds after an element is put in the lowest vacant place and
 -- after elements are dropped by key, and that keys stay distinct.
 use Prim.Native.Nat.{ℕ, _≤_, _<_}
+use native.Mathlib.Omega.{arith}
 use mathlib.Core.Path.{_≡_, refl, sym, ap, _∙_, subst}
 use mathlib.Core.Logic.{_⊎_, inl, inr}
 use mathlib.Core.Bool.{Bool, true, false, not, _&&_, cond}
 use mathlib.Core.List.{List, map}
-use native.Mathlib.Omega.{arith}
 use lib.Dec.{eqb, ltb}
 use lib.ListN.{length, getD, set, length-set, length-map, List·getD-eq-default, List·getD-map}
 use lib.Seq.{getD-set-same, getD-set-other}

@@ -1,11 +1,11 @@
 -- The first element that passes a test: what is found, after an element is put in the first place that passes another test, and
 -- after a change of every element. Then the least number that passes.
 use Prim.Native.Nat.{ℕ, zero, suc, _+_, _<_}
+use native.Mathlib.Nat.{le-of-suc-le-suc, not-suc-le-zero}
+use native.Mathlib.Omega.{arith}
 use mathlib.Core.Path.{_≡_, refl, sym, ap, _∙_}
 use mathlib.Core.Bool.{Bool, true, false, cond}
 use mathlib.Core.List.{List, [], _∷_, map}
-use native.Mathlib.Nat.{le-of-suc-le-suc, not-suc-le-zero}
-use native.Mathlib.Omega.{arith}
 use lib.ListN.{length, getD, set}
 use Rattle.lists.specs.Lists.{firstIndex, some, least}
 use Rattle.lists.proofs.Tests.{Case, pass, fail, case, no-true}

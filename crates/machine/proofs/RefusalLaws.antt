@@ -8,7 +8,6 @@ use borrow.Author.Tests.{eqb-true}
 use Rattle.lists.specs.Tests.{between}
 use Rattle.lists.proofs.Tests.{Case, pass, fail, case, and-l, and-r}
 use Rattle.tables.specs.declared.{Kind.Kind, Tables.Tables}
-use Rattle.tables.specs.Kinds.{isLive, isGrant, isRecall}
 use Rattle.tables.specs.Names.{isProgram}
 use Rattle.tables.proofs.KindLaws.{grant-of}
 use Rattle.machine.specs.declared.Request.{Request}
@@ -16,6 +15,7 @@ use Rattle.machine.specs.State.{State, refused}
 use Rattle.machine.specs.Refusal.{_when_else_}
 use Rattle.machine.specs.Operation.{operationOf, usedBy, fieldsOk}
 use Rattle.machine.specs.Step.{ownRefusal, requestRefusal, lengthsOk, refusal, outcome, step}
+use Rattle.tables.specs.Kinds.{isLive, isGrant, isRecall}
 
 -- the answer came later: the test failed
 pub when-past : (n : ℕ) (b : Bool) (later c : ℕ) → (n ≡ c → ⊥) → (n when b else later) ≡ c → (b ≡ false) × (later ≡ c)

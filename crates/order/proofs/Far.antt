@@ -1,24 +1,24 @@
 -- The test beside T1 to T6, place by place: a recall passes if its target is not far, or no child.
 use Prim.Native.Nat.{ℕ, _/_, _≤_, _<_}
-use mathlib.Core.Path.{_≡_, sym, subst}
-use mathlib.Core.Bool.{Bool, true, false, not, _&&_}
-use mathlib.Core.List.{List}
 use native.Mathlib.Omega.{arith}
-use borrow.Author.Tests.{leb-true, le-leb, lt-leb, not-true}
+use mathlib.Core.Path.{_≡_, sym, subst}
+use mathlib.Core.Bool.{Bool, true, false, not}
+use mathlib.Core.List.{List}
 use lib.Dec.{leb, eqb}
 use lib.ListN.{getD}
+use borrow.Author.Tests.{leb-true, le-leb, lt-leb, not-true}
 use Rattle.lists.specs.Tests.{implies}
 use Rattle.lists.proofs.Tests.{and-l, and-r, and-intro, cannot-pass, contradiction, not-test, implies-intro, implies-elim}
 use Rattle.tables.specs.declared.{Name.Name, Ticket.Ticket, Tables.Tables}
-use Rattle.tables.specs.Kinds.{isChild, isRecall}
 use Rattle.tables.specs.Names.{free, isProgram}
 use Rattle.tables.specs.Lookup.{Sized, lookup}
 use Rattle.tables.specs.Order.{noFarChild}
 use Rattle.tables.proofs.KindLaws.{live-child}
 use Rattle.tables.proofs.ByPlace.{InRange, name-in-range}
-use Rattle.index.specs.Places.{placed, nameAt, Flattened}
+use Rattle.index.specs.Places.{nameAt, Flattened}
 use Rattle.index.proofs.Laws.{every-placed, placed-every}
 use Rattle.order.specs.Far.{isFar}
+use Rattle.tables.specs.Kinds.{isChild, isRecall}
 
 -- ---- the ticket k at the place p: is it a recall with a far target?
 module _ (p : ℕ) (k : Ticket) where

@@ -1,34 +1,29 @@
 -- T1 makes the numbers of all places an index of the tickets by name.
 use Prim.Native.Nat.{ℕ, _/_, _%_, _≤_, _<_}
+use native.Mathlib.Omega.{arith}
 use mathlib.Core.Path.{_≡_, sym, ap, _∙_, subst}
 use mathlib.Core.Bool.{true}
 use mathlib.Core.List.{List, map}
-use native.Mathlib.Omega.{arith}
 use lib.Dec.{eqb}
 use lib.ListN.{length, getD, length-map, List·getD-map}
 use Rattle.lists.specs.Tests.{implies, between}
-use Rattle.lists.specs.Lists.{all, noTwo}
+use Rattle.lists.specs.Lists.{noTwo}
 use Rattle.lists.proofs.Tests.{and-l, and-r, implies-elim, between-low}
 use Rattle.lists.proofs.Everywhere.{all-elim}
 use Rattle.lists.proofs.Keyed.{Distinct, distinct-intro}
 use Rattle.tables.specs.declared.{Ticket.Ticket, Tables.Tables}
-use Rattle.tables.specs.Kinds.{isLive}
-use Rattle.tables.specs.Names.{free, noProgram, noPad}
-use Rattle.tables.specs.Lookup.{Sized, padAt, programAt, ticketsOf, lastOf}
+use Rattle.tables.specs.Names.{free}
+use Rattle.tables.specs.Lookup.{Sized, ticketsOf, lastOf}
 use Rattle.tables.specs.Order.{numbersOk, t1}
 use Rattle.tables.proofs.Keys.{ticketKeys, ticketLaws}
-use Rattle.tables.proofs.ByPlace.{ticketAt, pad-low, program-low}
+use Rattle.tables.proofs.ByPlace.{ticketAt, numbers-at}
 use Rattle.index.specs.Places.{placed, numberOf, Flattened, Numbered}
+use Rattle.tables.specs.Kinds.{isLive}
 
 module _ (t : Tables) (z : Sized t) (rule : t1 t ≡ true) where
-  numbers-at : (a b : ℕ) → a < 4 → b < 8 → numbersOk (programAt t a b) ≡ true
-  unfolding t1
-  numbers-at a b p q =
-      all-elim noProgram numbersOk (padAt t a .programs) (all-elim noPad (λ x. all numbersOk (x .programs)) (t .pads) rule a (pad-low t z p)) b (program-low t z p q)
-
   distinct-at : (a b : ℕ) → a < 4 → b < 8 → Distinct ticketKeys (ticketsOf t a b)
   unfolding numbersOk
-  distinct-at a b p q = distinct-intro ticketKeys ticketLaws (ticketsOf t a b) (and-l _ _ (numbers-at a b p q))
+  distinct-at a b p q = distinct-intro ticketKeys ticketLaws (ticketsOf t a b) (and-l _ _ (numbers-at t z rule p q))
 
   low-at : (a b i : ℕ) → a < 4 → b < 8 → i < length (ticketsOf t a b) → isLive (ticketAt t a b i .kind) ≡ true → 1 ≤ ticketAt t a b i .number
   unfolding numbersOk
@@ -36,7 +31,7 @@ module _ (t : Tables) (z : Sized t) (rule : t1 t ≡ true) where
       between-low 1 (lastOf t a b) (ticketAt t a b i .number)
       (implies-elim (isLive (ticketAt t a b i .kind)) _
       (all-elim free (λ k. implies (isLive (k .kind)) (between 1 (lastOf t a b) (k .number))) (ticketsOf t a b)
-      (and-r (noTwo (λ k. isLive (k .kind)) (λ k other. eqb (k .number) (other .number)) (ticketsOf t a b)) _ (numbers-at a b p q)) i h) l)
+      (and-r (noTwo (λ k. isLive (k .kind)) (λ k other. eqb (k .number) (other .number)) (ticketsOf t a b)) _ (numbers-at t z rule p q)) i h) l)
 
   low-placed : (p : ℕ) → p < 256 → isLive (placed t p .kind) ≡ true → 1 ≤ placed t p .number
   low-placed p h =

@@ -1,6 +1,6 @@
 -- The rules together: one that is broken settles the answer, and where all others hold, the last one does.
-use mathlib.Core.Path.{_≡_, refl, sym, _∙_}
-use mathlib.Core.Bool.{Bool, true, false, _&&_}
+use mathlib.Core.Path.{_≡_, sym}
+use mathlib.Core.Bool.{true, false, _&&_}
 use Rattle.lists.proofs.Tests.{and-l, and-r, and-intro, cannot-pass, contradiction}
 use Rattle.tables.specs.declared.Tables.{Tables}
 use Rattle.tables.specs.Order.{t1, t2, t3, t4, t5, t6, inOrder}

@@ -14,13 +14,13 @@ use tables::Ticket;
 pub fn in_order(t: Tables) -> bool
     ensures { λ r. ⌜ r ≡ inOrder t ⌝ }
 {
-    if !ticket_order::programs_ok(t) {
+    if !program_order::programs_ok(t) {
         return false;
     }
     let f = index::flatten(t);
     let mut numbers = [0u16; 256];
     index::write_numbers(f, &mut numbers);
-    if !ticket_order::chains_ok(f, &numbers) {
+    if !child_order::chains_ok(f, &numbers) {
         return false;
     }
     let es = t.entries;

@@ -1,4 +1,5 @@
--- Removal by a test that picks names of one pad only, and of one program only: the other pads and programs stay as they are.
+-- Laws for callers: a pad that was changed and put back is the tables with a ticket given, or without one. Removal by a test that picks
+-- names of one pad only, or of one program only, leaves the other pads and programs as they are.
 use Prim.Native.Nat.{ℕ}
 use mathlib.Core.Path.{_≡_, refl, sym, ap, _∙_}
 use mathlib.Core.Bool.{Bool, true, false, _&&_, cond}
@@ -9,11 +10,12 @@ use borrow.Author.Tests.{eq-eqb, ne-eqb}
 use Rattle.lists.proofs.Everywhere.{map-id}
 use Rattle.lists.proofs.Loops.{map-ext, mapAt-none, mapAt-one}
 use Rattle.tables.specs.declared.{Name.Name, Ticket.Ticket, Program.Program, Pad.Pad, Tables.Tables}
-use Rattle.tables.specs.Kinds.{isLive}
 use Rattle.tables.specs.Names.{nameOf, eqName, free, noProgram, noPad}
 use Rattle.tables.specs.Lookup.{padAt, programAt, hasNumber}
-use Rattle.tables.specs.Change.{dropTicket, dropInProgram, dropInPad, dropTickets, withProgram}
+use Rattle.tables.specs.Change.{dropTicket, dropInProgram, dropInPad, dropTickets, withProgram, give}
 use Rattle.pads.specs.Without.{withoutTicket, withoutNumber}
+use Rattle.pads.specs.OnePad.{givePad, dropPad, withPad}
+use Rattle.tables.specs.Kinds.{isLive}
 
 -- ---- names
 pub other-pad : (n x : Name) → (n .pad ≡ x .pad → ⊥) → eqName n x ≡ false
@@ -69,13 +71,18 @@ without-name x p =
     (p .tickets))
 
 -- the ticket of a name goes: its program alone changes
-pub drop-name : (t : Tables) (x : Name)
-    → dropTickets (λ n. eqName n x) t ≡ withProgram t (x .pad) (x .program) (withoutNumber (x .number) (programAt t (x .pad) (x .program)))
-unfolding withProgram dropInPad
-drop-name t x =
-    one-pad (λ n. eqName n x) (x .pad) (λ n b. other-pad n x b) t
-    ∙ ap (λ (l : List Program). record { pads = set (t .pads) (x .pad) (record { programs = l }); entries = t .entries })
+pub drop-pad : (t : Tables) (x : Name) → withPad t (x .pad) (dropPad (padAt t (x .pad)) (x .program) (x .number)) ≡ dropTickets (λ n. eqName n x) t
+unfolding dropPad dropInPad
+drop-pad t x =
+    sym
+    (one-pad (λ n. eqName n x) (x .pad) (λ n b. other-pad n x b) t
+    ∙ ap (λ (l : List Program). withPad t (x .pad) (record { programs = l }))
     (mapAt-one (dropInProgram (λ n. eqName n x) (x .pad)) noProgram (x .program)
     (λ i b. program-none (λ n. eqName n x) (x .pad) i (λ number. other-program (nameOf (x .pad) i number) x b))
     (padAt t (x .pad) .programs)
-    ∙ ap (set (padAt t (x .pad) .programs) (x .program)) (without-name x (programAt t (x .pad) (x .program))))
+    ∙ ap (set (padAt t (x .pad) .programs) (x .program)) (without-name x (programAt t (x .pad) (x .program)))))
+
+-- ---- a ticket given
+pub give-pad : (t : Tables) (pad program : ℕ) (k : Ticket) → withPad t pad (givePad (padAt t pad) program k) ≡ give t pad program k
+unfolding givePad give withProgram
+give-pad t pad program k = refl

@@ -2,13 +2,12 @@
 ghost use mathlib.Core.Path.{_≡_};
 ghost use Prim.Native.Nat.{_<_};
 ghost use Rattle.lists.specs.Lists.{firstIndex};
-ghost use Rattle.tables.specs.Names.{eqName};
 ghost use Rattle.tables.specs.Lookup.{ticketIn};
-ghost use Rattle.tables.specs.Change.{isFree, withTicket, give, dropTickets};
+ghost use Rattle.tables.specs.Change.{isFree, withTicket};
 ghost use Rattle.pads.specs.Without.{withoutNumber};
-use tables::Name;
+ghost use Rattle.pads.specs.OnePad.{givePad, dropPad};
+use tables::Pad;
 use tables::Program;
-use tables::Tables;
 use tables::Ticket;
 
 // ---- a program's places
@@ -65,18 +64,16 @@ fn with_ticket(p: Program, k: Ticket) -> Program
     q
 }
 
-// The ticket in the program's lowest free place, if there is one; its number is the last given.
-pub fn give(t: Tables, pad: usize, program: usize, k: Ticket) -> Tables
-    requires { ⌜ (pad < 4) × (program < 8) ⌝ }
-    ensures { λ r. ⌜ r ≡ give t pad program k ⌝ }
+// The pad with the ticket in the program's lowest free place, if there is one; its number is the last given.
+pub fn give(p: Pad, program: usize, k: Ticket) -> Pad
+    requires { ⌜ program < 8 ⌝ }
+    ensures { λ r. ⌜ r ≡ givePad p program k ⌝ }
 {
-    let mut p = t.pads[pad];
     let old = p.programs[program];
     let new = with_ticket(old, k);
-    p.programs[program] = new;
-    let mut u = t;
-    u.pads[pad] = p;
-    u
+    let mut q = p;
+    q.programs[program] = new;
+    q
 }
 
 // ---- one ticket removed
@@ -98,18 +95,14 @@ fn without_number(p: Program, number: u16) -> Program
     q
 }
 
-// The tables without the ticket of a name.
-pub fn drop_one(t: Tables, x: Name) -> Tables
-    requires { ⌜ (x .pad < 4) × (x .program < 8) ⌝ }
-    ensures { λ r. ⌜ r ≡ dropTickets (λ n. eqName n x) t ⌝ }
+// The pad without a program's ticket of a number.
+pub fn drop_one(p: Pad, program: usize, number: u16) -> Pad
+    requires { ⌜ program < 8 ⌝ }
+    ensures { λ r. ⌜ r ≡ dropPad p program number ⌝ }
 {
-    let a = x.pad as usize;
-    let b = x.program as usize;
-    let mut p = t.pads[a];
-    let old = p.programs[b];
-    let new = without_number(old, x.number);
-    p.programs[b] = new;
-    let mut u = t;
-    u.pads[a] = p;
-    u
+    let old = p.programs[program];
+    let new = without_number(old, number);
+    let mut q = p;
+    q.programs[program] = new;
+    q
 }

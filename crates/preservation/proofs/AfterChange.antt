@@ -2,10 +2,10 @@
 -- are removed; and that the shape is kept. Tickets and entries are both keyed lists, so each law is one of lists' Keyed.antt, carried
 -- through the two levels of pads and programs.
 use Prim.Native.Nat.{ℕ, suc, _≤_, _<_}
+use native.Mathlib.Omega.{arith}
 use mathlib.Core.Path.{_≡_, refl, sym, ap, _∙_, subst}
 use mathlib.Core.Bool.{Bool, true, false, cond}
 use mathlib.Core.List.{List, map}
-use native.Mathlib.Omega.{arith}
 use lib.Dec.{eqb}
 use lib.ListN.{length, getD, set, length-set}
 use lib.Seq.{getD-set-same, getD-set-other}
@@ -15,13 +15,13 @@ use Rattle.lists.proofs.Tests.{Case, pass, fail, case}
 use Rattle.lists.proofs.Everywhere.{getD-mapAt, length-mapAt}
 use Rattle.lists.proofs.Keyed.{byKey, Distinct, nothing-found, put-same, put-other, put-length, put-distinct, dropped-length, drop-found, drop-distinct}
 use Rattle.tables.specs.declared.{Name.Name, Ticket.Ticket, Program.Program, Pad.Pad, Entry.Entry, Tables.Tables}
-use Rattle.tables.specs.Kinds.{isLive}
 use Rattle.tables.specs.Names.{nameOf, sameProgram, free, noEntry, noProgram, noPad}
 use Rattle.tables.specs.Lookup.{Sized, padAt, programAt, ticketsOf, lastOf, hasNumber, ticketIn, lookup, isNamed, entryIn, entryOf}
 use Rattle.tables.specs.Change.{isFree, hasPlace, withTicket, withProgram, give, isSpare, putEntry, dropTicket, dropInProgram, dropInPad, dropTickets, dropEntry, dropEntries}
 use Rattle.tables.proofs.NameLaws.{name-eq, program-same, program-apart}
 use Rattle.tables.proofs.Keys.{ticketKeys, entryKeys, ticketLaws, entryLaws, lookup-keyed}
 use Rattle.preservation.specs.InOrder.{Shape}
+use Rattle.tables.specs.Kinds.{isLive}
 
 -- a name without a live entry finds the free record
 pub no-entry-there : (t : Tables) (n : Name) → entryOf t n .live ≡ false → entryOf t n ≡ noEntry

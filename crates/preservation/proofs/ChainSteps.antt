@@ -1,26 +1,27 @@
 -- Chains in tables in order: `atOrUnder` and `atOrBelow` link by link, the head of a grant's chain is its dock name, and a grant lies within
 -- the entry of its dock name.
 use Prim.Native.Nat.{ℕ, zero, suc, _+_, _≤_, _<_}
+use native.Mathlib.Omega.{arith}
+use native.Mathlib.Nat.{not-suc-le-zero, le-of-suc-le-suc}
 use mathlib.Core.Path.{_≡_, sym, ap, _∙_, subst}
 use mathlib.Core.Logic.{_⊎_, inl, inr}
 use mathlib.Core.Bool.{true, false, _||_}
-use native.Mathlib.Omega.{arith}
-use native.Mathlib.Nat.{not-suc-le-zero, le-of-suc-le-suc}
 use Rattle.lists.proofs.Tests.{contradiction, or-right}
 use Rattle.tables.specs.declared.{Name.Name, Tables.Tables}
-use Rattle.tables.specs.Kinds.{isLive, isGrant, isHead, isChild, isRecall}
 use Rattle.tables.specs.Names.{eqName, isNone}
 use Rattle.tables.specs.Lookup.{lastOf, lookup, entryOf}
 use Rattle.tables.specs.Chains.{endOf, ownName, parentOf, atOrUnder, chainHead, entryParent, atOrBelow}
 use Rattle.tables.specs.Order.{underStore}
 use Rattle.tables.proofs.KindLaws.{live-grant, live-child, live-recall, head-grant, child-head, recall-head, head-up, has-parent, grant-sort, live-head}
 use Rattle.tables.proofs.NameLaws.{eqName-false}
+use Rattle.tables.proofs.Links.{reaches-here, end-here, end-next}
 use Rattle.preservation.specs.Rules.{Span, Inside, Contains, EntryOk, Ends, here, up}
 use Rattle.preservation.specs.InOrder.{InOrder}
 use Rattle.preservation.proofs.SheetTests.{inside-refl, inside-trans}
-use Rattle.preservation.proofs.Walks.{reaches-here, reaches-up, end-here, end-next}
+use Rattle.preservation.proofs.Walks.{reaches-up}
 use Rattle.preservation.proofs.RuleFacts.{entry-head, child-up, recall-up, child-linked, recall-linked, ticket-chain, live-named}
 use Rattle.preservation.proofs.Places.{chain-short, entry-chain-short}
+use Rattle.tables.specs.Kinds.{isLive, isGrant, isHead, isChild, isRecall}
 
 module _ (t : Tables) (ok : InOrder t) where
   pub has-chain : (n : Name) → isLive (lookup t n .kind) ≡ true → (d : ℕ) × Ends (parentOf (lookup t)) n d

@@ -1,9 +1,9 @@
 -- The dock's own check after the pad's tests: for tables in order it can only add 12. The grant's sheets and rights lie within the entry
 -- of its dock name, so what the pad allowed the dock allows too, if the entry is there.
 use Prim.Native.Nat.{ℕ, _+_, _<_}
+use native.Mathlib.Omega.{arith}
 use mathlib.Core.Path.{_≡_, refl, _∙_}
 use mathlib.Core.Bool.{Bool, true, false, not, cond}
-use native.Mathlib.Omega.{arith}
 use lib.Dec.{leb, ltb}
 use borrow.Author.Tests.{le-ltb, lt-leb, leb-false}
 use Rattle.lists.specs.Tests.{between}
@@ -11,7 +11,6 @@ use Rattle.lists.proofs.Tests.{Case, pass, fail, case}
 use Rattle.rights.specs.Rules.{rightsOf, within}
 use Rattle.rights.proofs.Rules.{within-trans}
 use Rattle.tables.specs.declared.{Entry.Entry, Tables.Tables}
-use Rattle.tables.specs.Kinds.{isLive, isGrant, isRecall}
 use Rattle.tables.specs.Lookup.{entryOf}
 use Rattle.tables.specs.Sheets.{apart}
 use Rattle.machine.specs.declared.Request.{Request}
@@ -22,6 +21,7 @@ use Rattle.machine.specs.Access.{sheetOf, accessRefusal}
 use Rattle.machine.proofs.RefusalLaws.{agree-for-grants}
 use Rattle.preservation.specs.InOrder.{InOrder}
 use Rattle.preservation.proofs.ChainSteps.{within-entry}
+use Rattle.tables.specs.Kinds.{isLive, isGrant, isRecall}
 
 module _ (t : Tables) (ok : InOrder t) (r : Request) (right : ℕ) (one-right : between 1 2 right ≡ true) where
   abbrev e : Entry

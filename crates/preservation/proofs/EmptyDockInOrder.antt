@@ -9,7 +9,6 @@ use borrow.Author.Tests.{eq-eqb, ne-eqb}
 use Rattle.lists.specs.Lists.{firstIndex}
 use Rattle.lists.proofs.Tests.{no-true}
 use Rattle.tables.specs.declared.{Name.Name, Ticket.Ticket, Program.Program, Pad.Pad, Entry.Entry}
-use Rattle.tables.specs.Kinds.{isLive}
 use Rattle.tables.specs.Names.{free, noEntry, noProgram, noPad, emptyTables}
 use Rattle.tables.specs.Lookup.{Sized, padAt, programAt, lastOf, hasNumber, ticketIn, lookup, isNamed, entryIn, entryOf}
 use Rattle.tables.proofs.KindLaws.{live-grant, live-child, live-recall, live-head, live-taken}
@@ -17,6 +16,7 @@ use Rattle.tables.proofs.ByPlace.{ticketAt, entryAt, InRange, name-in-range}
 use Rattle.machine.specs.Empty.{emptied, emptyDock}
 use Rattle.preservation.specs.Rules.{Rules}
 use Rattle.preservation.specs.InOrder.{Shape, Invariant}
+use Rattle.tables.specs.Kinds.{isLive}
 
 abbrev emptyProgram : Program
 emptyProgram = record { tickets = replicate 8 free; last = 0 }

@@ -1,13 +1,12 @@
 -- The insertion theorem: tickets and entries are added under names that were never given, and the rules hold, if they hold at the new
 -- names. It speaks of maps only. Take and both passes are instances (Taking.antt, Passing.antt).
 use Prim.Native.Nat.{ℕ, _≤_}
+use native.Mathlib.Omega.{arith}
 use mathlib.Core.Path.{_≡_, sym, ap, _∙_}
 use mathlib.Core.Logic.{_⊎_, inl, inr}
 use mathlib.Core.Bool.{true, false}
-use native.Mathlib.Omega.{arith}
 use Rattle.lists.proofs.Tests.{contradiction, cannot-pass}
 use Rattle.tables.specs.declared.{Name.Name, Ticket.Ticket, Entry.Entry, Tables.Tables}
-use Rattle.tables.specs.Kinds.{isLive, isGrant, isHead, isTaken, isChild, isRecall}
 use Rattle.tables.specs.Lookup.{lastOf, lookup, entryOf}
 use Rattle.tables.specs.Chains.{ownName, parentBy, parentOf, entryParent}
 use Rattle.tables.specs.Order.{underStore}
@@ -17,6 +16,7 @@ use Rattle.preservation.specs.InOrder.{Shape, Invariant}
 use Rattle.preservation.proofs.SheetTests.{apart-sym}
 use Rattle.preservation.proofs.Walks.{ends-kept}
 use Rattle.preservation.proofs.RuleFacts.{entry-head, parent-live}
+use Rattle.tables.specs.Kinds.{isLive, isGrant, isHead, isTaken, isChild, isRecall}
 
 -- what is asked of a new ticket and of a new entry, in the maps that hold them
 pub record NewTicket (tickets : Name → Ticket) (entries : Name → Entry) (lasts : ℕ → ℕ → ℕ) (n : Name) : Type 0 where

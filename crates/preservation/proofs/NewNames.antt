@@ -1,13 +1,12 @@
 -- Names past the last number of their program: they are neither a ticket's nor an entry's, nor were they ever given. A taken or
 -- received grant under such a name keeps the rules there.
 use Prim.Native.Nat.{ℕ, suc}
+use native.Mathlib.Omega.{arith}
 use mathlib.Core.Path.{_≡_, refl, sym, ap, _∙_}
 use mathlib.Core.Bool.{true, false}
-use native.Mathlib.Omega.{arith}
 use Rattle.lists.proofs.Tests.{contradiction, cannot-pass, no-true}
 use Rattle.rights.specs.declared.Rights.{Rights}
 use Rattle.tables.specs.declared.{Name.Name, Kind.Kind, Ticket.Ticket, Entry.Entry, Tables.Tables}
-use Rattle.tables.specs.Kinds.{isLive, isTaken, isChild, isRecall}
 use Rattle.tables.specs.Names.{headTicket}
 use Rattle.tables.specs.Lookup.{lastOf, lookup, entryOf}
 use Rattle.tables.proofs.KindLaws.{live-head}
@@ -15,6 +14,7 @@ use Rattle.preservation.specs.Rules.{Span, Given}
 use Rattle.preservation.specs.InOrder.{InOrder}
 use Rattle.preservation.proofs.RuleFacts.{entry-head}
 use Rattle.preservation.proofs.Insertion.{NewTicket}
+use Rattle.tables.specs.Kinds.{isLive, isTaken, isChild, isRecall}
 
 -- a name past the last is neither a ticket's nor an entry's
 module _ (t : Tables) (ok : InOrder t) (x : Name) (past : x .number ≡ suc (lastOf t (x .pad) (x .program))) where

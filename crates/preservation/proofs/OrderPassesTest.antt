@@ -13,7 +13,6 @@ use Rattle.lists.proofs.Everywhere.{all-intro}
 use Rattle.lists.proofs.Keyed.{distinct-test, keys-no-two}
 use Rattle.rights.specs.declared.Rights.{Rights}
 use Rattle.tables.specs.declared.{Name.Name, Ticket.Ticket, Entry.Entry, Tables.Tables}
-use Rattle.tables.specs.Kinds.{isLive, isGrant, isHead, isTaken, isReceived, isChild, isRecall}
 use Rattle.tables.specs.Names.{nameOf, eqName, free, noProgram, noPad}
 use Rattle.tables.specs.Lookup.{padAt, programAt, ticketsOf, lastOf, lookup, isNamed, entryIn, entryOf}
 use Rattle.tables.specs.Chains.{ownName, entryParent, chainRoot}
@@ -30,6 +29,7 @@ use Rattle.preservation.proofs.Walks.{end-good}
 use Rattle.preservation.proofs.Places.{entry-chain-short}
 use Rattle.preservation.proofs.ChainSteps.{head-is-dock, dock-head}
 use Rattle.preservation.proofs.TestsByName.{at-name, every-ticket-intro, every-entry-intro, some-ticket-intro}
+use Rattle.tables.specs.Kinds.{isLive, isGrant, isHead, isTaken, isReceived, isChild, isRecall}
 
 -- ---- the parts of a rule, each to its test
 parent-test : (n : Name) (k p : Ticket) → ChildOk n k p → parentOk n k p ≡ true

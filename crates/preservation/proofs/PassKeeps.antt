@@ -1,10 +1,10 @@
 -- Pass keeps the invariant, on the same pad and to another. It is an instance of the insertion theorem with two new names: x, a recall of the
 -- asker's, and y, a child or a received grant of the recipient's.
 use Prim.Native.Nat.{ℕ, suc, _+_, _≤_}
+use native.Mathlib.Omega.{arith}
 use mathlib.Core.Path.{_≡_, refl, sym, ap, _∙_, subst}
 use mathlib.Core.Logic.{_⊎_, inl, inr}
 use mathlib.Core.Bool.{true, false}
-use native.Mathlib.Omega.{arith}
 use lib.Dec.{eqb}
 use borrow.Author.Tests.{eqb-true, eqb-false}
 use Rattle.lists.proofs.Tests.{Case, pass, fail, case, no-true, contradiction}
@@ -12,7 +12,6 @@ use Rattle.rights.specs.Rules.{rightsOf, passOn, canPass}
 use Rattle.rights.proofs.Rules.{within-trans}
 use Rattle.tables.specs.declared.{Name.Name, Ticket.Ticket, Program.Program, Entry.Entry, Tables.Tables}
 use Rattle.tables.specs.declared.Kind.the-variants.{Received}
-use Rattle.tables.specs.Kinds.{isLive, isChild, isRecall}
 use Rattle.tables.specs.Names.{eqName, isNone, sameProgram}
 use Rattle.tables.specs.Lookup.{lastOf, lookup, entryOf}
 use Rattle.tables.specs.Chains.{parentBy, parentOf, entryParent}
@@ -30,6 +29,7 @@ use Rattle.preservation.proofs.Insertion.{NewTicket, NewEntry, Inserted
 use Rattle.preservation.proofs.ChainSteps.{has-chain, dock-named, within-entry}
 use Rattle.preservation.proofs.NewNames.{past-given, not-past, not-past-entry, new-head}
 use Rattle.preservation.proofs.Passing.{MayPass, recallName, grantName, newRecall, newChild, newReceived, newEntry, PassEffect, pass-near, pass-near-entries, pass-far, pass-far-entry}
+use Rattle.tables.specs.Kinds.{isLive, isChild, isRecall}
 
 module _ (t : Tables) (ok : Invariant t) (r : Request) (may : MayPass t r) where
   abbrev a : Name

@@ -10,7 +10,6 @@ use Rattle.lists.specs.Lists.{firstIndex, some}
 use Rattle.rights.specs.Rules.{rightsOf, within, canPass}
 use Rattle.tables.specs.declared.{Name.Name, Ticket.Ticket, Program.Program, Pad.Pad, Entry.Entry, Tables.Tables}
 use Rattle.tables.specs.declared.Kind.the-variants.{Received, Child}
-use Rattle.tables.specs.Kinds.{isLive, isGrant}
 use Rattle.tables.specs.Names.{sameProgram, grantTicket, headTicket, recallTicket, entryFor, noProgram, noPad}
 use Rattle.tables.specs.Lookup.{programAt, ticketsOf, lastOf, lookup, entryIn, entryOf}
 use Rattle.tables.specs.Change.{isFree, hasPlace, newName, give, isSpare, putEntry}
@@ -22,6 +21,7 @@ use Rattle.preservation.specs.InOrder.{Shape, InOrder}
 use Rattle.preservation.proofs.AfterChange.{Added, give-adds, entry-same, entry-other, lookup-pads, shape-put}
 use Rattle.preservation.proofs.Places.{entry-room}
 use Rattle.preservation.proofs.NewNames.{past-ticket, past-entry}
+use Rattle.tables.specs.Kinds.{isLive, isGrant}
 
 -- what the tests of a pass have shown
 pub record MayPass (t : Tables) (r : Request) : Type 0 where

@@ -2,10 +2,10 @@
 -- so has the dock. All three by the pigeonhole: the names of a chain lie in different places; and were all 256 entries live, their grants
 -- would lie in all 256 places of tickets, the free one too.
 use Prim.Native.Nat.{ℕ, _+_, _*_, _≤_, _<_}
+use native.Mathlib.Omega.{arith}
 use mathlib.Core.Path.{_≡_, refl, sym, ap, _∙_, subst}
 use mathlib.Core.Logic.{_⊎_, inl, inr}
 use mathlib.Core.Bool.{true, false, not}
-use native.Mathlib.Omega.{arith}
 use lib.ListN.{length}
 use borrow.Author.Tests.{not-true}
 use Rattle.lists.specs.Lists.{firstIndex, some}
@@ -15,7 +15,6 @@ use Rattle.lists.proofs.Everywhere.{some-intro}
 use Rattle.lists.proofs.Keyed.{found-low}
 use Rattle.lists.proofs.Pigeonhole.{none-left-out}
 use Rattle.tables.specs.declared.{Name.Name, Ticket.Ticket, Entry.Entry, Tables.Tables}
-use Rattle.tables.specs.Kinds.{isLive, isChild, isRecall}
 use Rattle.tables.specs.Names.{isNone, free, noEntry}
 use Rattle.tables.specs.Lookup.{ticketsOf, lastOf, hasNumber, ticketIn, lookup, isNamed, entryIn, entryOf}
 use Rattle.tables.specs.Chains.{parentOf, entryParent}
@@ -29,6 +28,7 @@ use Rattle.preservation.specs.InOrder.{InOrder}
 use Rattle.preservation.proofs.Walks.{chain-length}
 use Rattle.preservation.proofs.RuleFacts.{entry-head, child-up, recall-up, parent-live}
 use Rattle.preservation.proofs.TestsByName.{at-entry-name}
+use Rattle.tables.specs.Kinds.{isLive, isChild, isRecall}
 
 module _ (t : Tables) (ok : InOrder t) where
   -- ---- the place of a name's ticket: in its program, on its pad, on all pads

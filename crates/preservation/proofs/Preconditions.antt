@@ -1,16 +1,15 @@
 -- What the refusals have tested where they come to their end: from a chain of refusals that answers 0, or 12, the conditions under
 -- which the operation works. The chains are taken apart link by link.
 use Prim.Native.Nat.{ℕ, zero, suc, _+_, _≤_, _<_}
+use native.Mathlib.Omega.{arith}
 use mathlib.Core.Path.{_≡_, refl}
 use mathlib.Core.Bool.{Bool, true, false, not, _&&_, _||_}
-use native.Mathlib.Omega.{arith}
 use lib.Dec.{eqb, ltb, leb}
 use borrow.Author.Tests.{leb-true, leb-false, ltb-false, ne-eqb, not-false, not-true}
 use Rattle.lists.specs.Tests.{between}
 use Rattle.lists.proofs.Tests.{and-l, and-r, or-false-l, or-false-r, between-low, between-high}
 use Rattle.rights.specs.Rules.{rightsOf, within, canPass}
 use Rattle.tables.specs.declared.Tables.{Tables}
-use Rattle.tables.specs.Kinds.{isLive, isGrant, isTaken, isRecall}
 use Rattle.tables.specs.Names.{isProgram, sameProgram}
 use Rattle.tables.specs.Lookup.{entryOf}
 use Rattle.tables.specs.Change.{hasPlace}
@@ -31,6 +30,7 @@ use Rattle.machine.specs.Step.{ownRefusal, requestRefusal}
 use Rattle.machine.proofs.RefusalLaws.{when-past, when-here}
 use Rattle.preservation.proofs.Taking.{MayTake}
 use Rattle.preservation.proofs.Passing.{MayPass}
+use Rattle.tables.specs.Kinds.{isLive, isGrant, isTaken, isRecall}
 
 -- ---- a chain of refusals
 -- an answer that none of the refusals 1 to 11 gives: 0, or 12

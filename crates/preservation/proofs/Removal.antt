@@ -7,7 +7,6 @@ use lib.Dec.{eqb}
 use borrow.Author.Tests.{eqb-true, eqb-false}
 use Rattle.lists.proofs.Tests.{Case, pass, fail, case, no-true, not-pass}
 use Rattle.tables.specs.declared.{Name.Name, Ticket.Ticket, Entry.Entry}
-use Rattle.tables.specs.Kinds.{isLive, isTaken, isChild, isRecall}
 use Rattle.tables.specs.Names.{isNone, free, noEntry}
 use Rattle.tables.specs.Chains.{ownName, parentBy, parentOf, entryParent}
 use Rattle.tables.specs.Order.{underStore}
@@ -15,6 +14,7 @@ use Rattle.tables.proofs.KindLaws.{live-grant, live-child, live-recall, live-he
 use Rattle.preservation.specs.Rules.{Given, ChildOk, RecallOk, NearOk, FarOk, Recalled, EntryOk, UnderOk, Ends, Rules, NoFarChild}
 use Rattle.preservation.proofs.Walks.{ends-kept}
 use Rattle.preservation.proofs.RuleFacts.{child-up, recall-up, child-linked, recall-linked}
+use Rattle.tables.specs.Kinds.{isLive, isTaken, isChild, isRecall}
 
 -- what is live after a removal was not picked and is what it was
 pub ticket-survives : (b : Bool) (k : Ticket) {k′ : Ticket} → k′ ≡ cond b free k → isLive (k′ .kind) ≡ true → (b ≡ false) × (k′ ≡ k)

@@ -9,7 +9,6 @@ use Rattle.lists.proofs.Tests.{Case, pass, fail, case, no-true, contradiction, 
 use Rattle.lists.proofs.Everywhere.{map-id}
 use Rattle.lists.proofs.Keyed.{drop-none}
 use Rattle.tables.specs.declared.{Name.Name, Entry.Entry, Tables.Tables}
-use Rattle.tables.specs.Kinds.{isGrant, isHead, isTaken, isChild, isRecall}
 use Rattle.tables.specs.Names.{eqName, isNone}
 use Rattle.tables.specs.Lookup.{lastOf, lookup, entryOf}
 use Rattle.tables.specs.Chains.{ownName, parentOf, atOrUnder, chainHead, atOrBelow}
@@ -29,6 +28,7 @@ use Rattle.preservation.proofs.RuleFacts.{taken-root, parent-grant}
 use Rattle.preservation.proofs.AfterChange.{removed, lookup-removed, entry-removed, last-removed, shape-removed}
 use Rattle.preservation.proofs.Removal.{Closure, rules-after-removal, no-far-child-after-removal}
 use Rattle.preservation.proofs.ChainSteps.{entry-grant, at-head, falls, at-root, entry-falls, target-step, recall-step, pair-head, head-is-dock, dock-head, dock-named}
+use Rattle.tables.specs.Kinds.{isGrant, isHead, isTaken, isChild, isRecall}
 
 invariant-removed : (t : Tables) → Invariant t → (gone cut : Name → Bool) → Closure (lookup t) (entryOf t) gone cut → Invariant (removed gone cut t)
 invariant-removed t ok gone cut closure = record {

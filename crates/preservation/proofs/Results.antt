@@ -1,9 +1,9 @@
 -- The result of a request past 13 and 14 is the number of its chain of refusals, and that is at most 12.
 -- So 13 and 14 come from the first two tests alone.
 use Prim.Native.Nat.{ℕ, _≤_}
+use native.Mathlib.Omega.{arith}
 use mathlib.Core.Path.{_≡_, refl, sym, _∙_}
 use mathlib.Core.Bool.{Bool}
-use native.Mathlib.Omega.{arith}
 use lib.Dec.{eqb}
 use borrow.Author.Tests.{eqb-true}
 use Rattle.lists.proofs.Tests.{Case, pass, fail, case}

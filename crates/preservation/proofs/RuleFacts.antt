@@ -1,19 +1,19 @@
 -- What follows from the rules without looking at places: an entry's grant heads its chain, a parent is a grant and has a number, every live
 -- ticket has a chain that ends.
 use Prim.Native.Nat.{ℕ, suc, _≤_}
+use native.Mathlib.Omega.{arith}
 use mathlib.Core.Path.{_≡_}
 use mathlib.Core.Logic.{_⊎_, inl, inr}
 use mathlib.Core.Bool.{true, false}
-use native.Mathlib.Omega.{arith}
 use borrow.Author.Tests.{ne-eqb}
 use Rattle.lists.proofs.Tests.{cannot-fail, Case, pass, fail, case}
 use Rattle.tables.specs.declared.{Name.Name, Ticket.Ticket, Entry.Entry}
-use Rattle.tables.specs.Kinds.{isLive, isGrant, isHead, isTaken, isChild, isRecall}
 use Rattle.tables.specs.Names.{isNone}
 use Rattle.tables.specs.Chains.{ownName, parentOf}
 use Rattle.tables.specs.Order.{underStore}
 use Rattle.tables.proofs.KindLaws.{live-grant, taken-head, received-head, received-taken, grant-sort, up-child, up-recall, head-up, has-parent}
 use Rattle.preservation.specs.Rules.{EntryOk, Ends, here, up, Rules}
+use Rattle.tables.specs.Kinds.{isLive, isGrant, isHead, isTaken, isChild, isRecall}
 
 -- ---- an entry and its grant
 pub entry-head : {e : Entry} {k : Ticket} → EntryOk e k → isHead (k .kind) ≡ true

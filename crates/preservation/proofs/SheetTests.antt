@@ -1,11 +1,11 @@
 -- The tests of sheets decide what they say: runs within and apart, T2, and the lowest free run. Each has a law from the test to the statement
 -- (of) and one back (test). Then how containment goes on.
 use Prim.Native.Nat.{ℕ, _+_, _≤_, _<_}
+use native.Mathlib.Omega.{arith}
 use mathlib.Core.Path.{_≡_}
 use mathlib.Core.Logic.{inl, inr, _⊎_}
 use mathlib.Core.Bool.{true}
 use mathlib.Core.List.{List}
-use native.Mathlib.Omega.{arith}
 use lib.Dec.{leb}
 use borrow.Author.Tests.{leb-true, le-leb, ltb-true}
 use Rattle.lists.specs.Tests.{between}

@@ -1,10 +1,10 @@
 -- The step: on a dock that is in order, with whole buffers, 13 and 14 never come, and the dock is left in order. Said of one request and of
 -- any sequence of requests; of the proposition, and of the Bool tests alone.
 use Prim.Native.Nat.{ℕ, _+_, _*_, _≤_}
+use native.Mathlib.Omega.{arith}
 use mathlib.Core.Path.{_≡_}
 use mathlib.Core.Bool.{true}
 use mathlib.Core.List.{List, [], _∷_}
-use native.Mathlib.Omega.{arith}
 use lib.Dec.{eqb}
 use lib.ListN.{length, replicate, length-replicate}
 use borrow.Author.Tests.{eqb-true, eq-eqb}

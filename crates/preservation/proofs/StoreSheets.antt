@@ -1,11 +1,11 @@
 -- Sheets of the store after some are written: those written hold what was written, the others what they held. Shown byte by byte, by
 -- taking the put of a run as a row of single stores.
 use Prim.Native.Nat.{ℕ, zero, suc, _+_, _*_, _-_, _≤_, _<_}
+use native.Mathlib.Omega.{arith}
+use native.Mathlib.Nat.{not-suc-le-zero, le-of-suc-le-suc}
 use mathlib.Core.Path.{_≡_, refl, sym, ap, _∙_, subst}
 use mathlib.Core.Logic.{_⊎_, inl, inr}
 use mathlib.Core.List.{List, [], _∷_}
-use native.Mathlib.Omega.{arith}
-use native.Mathlib.Nat.{not-suc-le-zero, le-of-suc-le-suc}
 use lib.ListN.{length, getD, set, drop, length-take, length-drop, length-set}
 use lib.Seq.{sets, sets-eq, length-sets, getD-set-same, getD-set-other, getD-take, getD-drop, ext-getD}
 use Rattle.machine.specs.State.{sheetAt, putSheets}

@@ -1,11 +1,11 @@
 -- What an accepted take does to tables in order (`TakeEffect`), and that it keeps the invariant. It is an instance of the insertion theorem:
 -- one new name, with a taken grant and an entry under the store whose sheets lie outside all entries.
 use Prim.Native.Nat.{ℕ, suc, _≤_}
+use native.Mathlib.Omega.{arith}
 use mathlib.Core.Path.{_≡_, refl, sym, ap, _∙_}
 use mathlib.Core.Logic.{_⊎_, inl, inr}
 use mathlib.Core.Bool.{true, false}
 use mathlib.Core.List.{List}
-use native.Mathlib.Omega.{arith}
 use lib.ListN.{set}
 use Rattle.lists.specs.Lists.{firstIndex, some}
 use Rattle.lists.proofs.Tests.{Case, pass, fail, case, no-true}
@@ -13,7 +13,6 @@ use Rattle.lists.proofs.Everywhere.{all-elim}
 use Rattle.rights.specs.Rules.{rightsOf}
 use Rattle.tables.specs.declared.{Name.Name, Ticket.Ticket, Program.Program, Entry.Entry, Tables.Tables}
 use Rattle.tables.specs.declared.Kind.the-variants.{Taken}
-use Rattle.tables.specs.Kinds.{isLive}
 use Rattle.tables.specs.Names.{noName, eqName, sameProgram, noEntry, headTicket, entryFor}
 use Rattle.tables.specs.Lookup.{programAt, ticketsOf, lastOf, lookup, entryOf}
 use Rattle.tables.specs.Change.{isFree, hasPlace, newName, give, isSpare, putEntry}
@@ -29,6 +28,7 @@ use Rattle.preservation.proofs.AfterChange.{Added, give-adds, entry-sam
 use Rattle.preservation.proofs.Insertion.{NewTicket, NewEntry, Inserted, invariant-inserted}
 use Rattle.preservation.proofs.Places.{entryPlace, entry-at-place, entry-place-low, entry-room}
 use Rattle.preservation.proofs.NewNames.{past-ticket, past-entry, past-given, not-past, not-past-entry, new-head}
+use Rattle.tables.specs.Kinds.{isLive}
 
 -- what the tests of a take have shown
 pub record MayTake (t : Tables) (r : Request) : Type 0 where

@@ -1,9 +1,9 @@
 -- Tables that pass the test are in order: from the Bool `inOrder`, with the lengths of the arrays, to the proposition T1 to T6, rule by rule.
 use Prim.Native.Nat.{ℕ, _≤_, _<_}
+use native.Mathlib.Omega.{arith}
 use mathlib.Core.Path.{_≡_, subst}
 use mathlib.Core.Logic.{_⊎_, inl, inr}
 use mathlib.Core.Bool.{true, false, not, _&&_, cond}
-use native.Mathlib.Omega.{arith}
 use lib.Dec.{eqb}
 use lib.ListN.{length}
 use borrow.Author.Tests.{eqb-true, eqb-false, eq-eqb, ne-eqb, not-true, not-false}
@@ -15,7 +15,6 @@ use Rattle.lists.proofs.Keyed.{Distinct, distinct-intro, no-two-keys}
 use Rattle.rights.specs.Rules.{canPass}
 use Rattle.rights.proofs.Rules.{rights-eq}
 use Rattle.tables.specs.declared.{Name.Name, Ticket.Ticket, Entry.Entry, Tables.Tables}
-use Rattle.tables.specs.Kinds.{isLive, isGrant, isHead, isTaken, isReceived, isChild, isRecall}
 use Rattle.tables.specs.Names.{noName, eqName, isProgram, free, noProgram, noPad}
 use Rattle.tables.specs.Lookup.{Sized, padAt, programAt, ticketsOf, lastOf, hasNumber, ticketIn, lookup, isNamed, entryIn, entryOf}
 use Rattle.tables.specs.Chains.{ownName, parentOf, chainHead, entryParent, chainRoot}
@@ -31,6 +30,7 @@ use Rattle.preservation.proofs.SheetTests.{inside-of, span-of, apart-of
 use Rattle.preservation.proofs.Walks.{ends-of}
 use Rattle.preservation.proofs.RuleFacts.{entry-head}
 use Rattle.preservation.proofs.TestsByName.{every-ticket-elim, SomeName, some-ticket-elim}
+use Rattle.tables.specs.Kinds.{isLive, isGrant, isHead, isTaken, isReceived, isChild, isRecall}
 
 -- ---- the parts of a rule, each from its test
 parent-of : (n : Name) (k p : Ticket) → parentOk n k p ≡ true → ChildOk n k p

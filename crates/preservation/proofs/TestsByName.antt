@@ -10,7 +10,6 @@ use Rattle.lists.proofs.Tests.{and-l, and-r, and-intro, implies-intro}
 use Rattle.lists.proofs.Everywhere.{all-intro}
 use Rattle.lists.proofs.Keyed.{found-at}
 use Rattle.tables.specs.declared.{Name.Name, Kind.Kind, Ticket.Ticket, Entry.Entry, Tables.Tables}
-use Rattle.tables.specs.Kinds.{isLive}
 use Rattle.tables.specs.Names.{nameOf, noEntry}
 use Rattle.tables.specs.Lookup.{Sized, ticketsOf, hasNumber, ticketIn, lookup, isNamed, entryIn, entryOf}
 use Rattle.tables.specs.Order.{everyTicket, someTicket, everyEntry}
@@ -18,6 +17,7 @@ use Rattle.tables.proofs.NameLaws.{name-eq}
 use Rattle.tables.proofs.Keys.{ticketKeys, entryKeys, ticketLaws, entryLaws}
 use Rattle.tables.proofs.ByPlace.{ticketAt, entryAt, place, place-low, found-number, name-in-range, every-at, every-from, some-at, some-from}
 use Rattle.preservation.specs.InOrder.{Shape}
+use Rattle.tables.specs.Kinds.{isLive}
 
 module _ (t : Tables) (z : Sized t) (kinds : Kind → Bool) (live : (k : Kind) → kinds k ≡ true → isLive k ≡ true) (test : Name → Ticket → Bool) where
   pub every-ticket-elim : everyTicket kinds test t ≡ true → (n : Name) → kinds (lookup t n .kind) ≡ true → test n (lookup t n) ≡ true

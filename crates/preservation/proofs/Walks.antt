@@ -2,10 +2,10 @@
 -- enough is as good as any other, and then a walk satisfies its own equation, link by link. A chain has fewer links than the places that
 -- its names lie in.
 use Prim.Native.Nat.{ℕ, zero, suc, _≤_, _<_}
-use mathlib.Core.Path.{_≡_, refl, sym, ap, _∙_, subst}
-use mathlib.Core.Bool.{Bool, true, false, _||_, cond, or-false}
 use native.Mathlib.Omega.{arith}
 use native.Mathlib.Nat.{not-suc-le-zero, le-of-suc-le-suc}
+use mathlib.Core.Path.{_≡_, refl, sym, ap, _∙_, subst}
+use mathlib.Core.Bool.{Bool, false, _||_, cond}
 use lib.Dec.{eqb}
 use borrow.Author.Tests.{eqb-true, eqb-false}
 use Rattle.lists.proofs.Tests.{Case, pass, fail, case, contradiction}
@@ -13,28 +13,20 @@ use Rattle.lists.proofs.Pigeonhole.{pigeonhole}
 use Rattle.tables.specs.declared.Name.{Name}
 use Rattle.tables.specs.Names.{eqName, noName, isNone}
 use Rattle.tables.specs.Chains.{reaches, endOf}
+use Rattle.tables.proofs.Links.{reaches-here, reaches-next, end-here, end-next}
 use Rattle.preservation.specs.Rules.{Ends, here, up}
 
 module _ (parent : Name → Name) where
-  -- ---- where a walk stops, and one link further
   module _ (x : Name) where
-    pub reaches-here : (left : ℕ) (n : Name) → isNone (parent n) ≡ true → reaches (suc left) parent n x ≡ eqName n x
-    unfolding reaches
-    reaches-here left n e = rw e (or-false (eqName n x))
-
-    pub reaches-next : (left : ℕ) (n : Name) → isNone (parent n) ≡ false → reaches (suc left) parent n x ≡ (eqName n x || reaches left parent (parent n) x)
-    unfolding reaches
-    reaches-next left n e = rw e
-
     reaches-enough : {n : Name} {d : ℕ} → Ends parent n d → (f g : ℕ) → d < f → d < g → reaches f parent n x ≡ reaches g parent n x
     reaches-enough (here e) zero g a b = absurd (not-suc-le-zero a)
     reaches-enough (here e) (suc f) zero a b = absurd (not-suc-le-zero b)
-    reaches-enough {n} (here e) (suc f) (suc g) a b = reaches-here f n e ∙ sym (reaches-here g n e)
+    reaches-enough {n} (here e) (suc f) (suc g) a b = reaches-here parent x f n e ∙ sym (reaches-here parent x g n e)
     reaches-enough (up e r) zero g a b = absurd (not-suc-le-zero a)
     reaches-enough (up e r) (suc f) zero a b = absurd (not-suc-le-zero b)
     reaches-enough {n} (up e r) (suc f) (suc g) a b =
-        reaches-next f n e ∙ ap (λ (y : Bool). eqName n x || y) (reaches-enough r f g (le-of-suc-le-suc a) (le-of-suc-le-suc b))
-        ∙ sym (reaches-next g n e)
+        reaches-next parent x f n e ∙ ap (λ (y : Bool). eqName n x || y) (reaches-enough r f g (le-of-suc-le-suc a) (le-of-suc-le-suc b))
+        ∙ sym (reaches-next parent x g n e)
 
     -- with places to spare the walk from n is the walk from its parent
     pub reaches-up : {n : Name} {d : ℕ} → Ends parent n d → isNone (parent n) ≡ false → (left : ℕ) → d < left
@@ -42,15 +34,7 @@ module _ (parent : Name → Name) where
     reaches-up (here e) q left a = contradiction e q
     reaches-up (up e r) q zero a = absurd (not-suc-le-zero a)
     reaches-up {n} (up e r) q (suc left) a =
-        reaches-next left n e ∙ ap (λ (y : Bool). eqName n x || y) (reaches-enough r left (suc left) (le-of-suc-le-suc a) (omega arith))
-
-  pub end-here : (left : ℕ) (n : Name) → isNone (parent n) ≡ true → endOf (suc left) parent n ≡ n
-  unfolding endOf
-  end-here left n e = rw e
-
-  pub end-next : (left : ℕ) (n : Name) → isNone (parent n) ≡ false → endOf (suc left) parent n ≡ endOf left parent (parent n)
-  unfolding endOf
-  end-next left n e = rw e
+        reaches-next parent x left n e ∙ ap (λ (y : Bool). eqName n x || y) (reaches-enough r left (suc left) (le-of-suc-le-suc a) (omega arith))
 
   -- a walk that ends well has come to the end of the chain, and with places to spare every walk does
   pub ends-of : (good : Name → Type 0) → (good noName → ⊥) → (left : ℕ) (n : Name) → good (endOf left parent n) → (d : ℕ) × Ends parent n d
@@ -66,9 +50,9 @@ module _ (parent : Name → Name) where
       → {n : Name} {d : ℕ} → Ends parent n d → (left : ℕ) → d < left → good n → good (endOf left parent n)
   end-good good climbs (here e) zero b h = absurd (not-suc-le-zero b)
   end-good good climbs (up e r) zero b h = absurd (not-suc-le-zero b)
-  end-good good climbs {n} (here e) (suc left) b h = subst good (sym (end-here left n e)) h
+  end-good good climbs {n} (here e) (suc left) b h = subst good (sym (end-here parent left n e)) h
   end-good good climbs {n} (up e r) (suc left) b h =
-      subst good (sym (end-next left n e)) (end-good good climbs r left (le-of-suc-le-suc b) (climbs n h e))
+      subst good (sym (end-next parent left n e)) (end-good good climbs r left (le-of-suc-le-suc b) (climbs n h e))
 
   -- ---- the names on a chain
   ends-unique : {n : Name} {d e : ℕ} → Ends parent n d → Ends parent n e → d ≡ e

@@ -1,18 +1,17 @@
 -- Keys by cases, as the code computes them, and children's marks as far as the loop has come.
 use Prim.Native.Nat.{ℕ, zero, suc, _+_, _*_, _≤_, _<_}
+use native.Mathlib.Omega.{arith}
 use mathlib.Core.Path.{_≡_, refl, sym, _∙_}
 use mathlib.Core.Bool.{Bool, true, false}
 use mathlib.Core.List.{List, [], _∷_, map}
-use native.Mathlib.Omega.{arith}
-use borrow.Author.Tests.{lt-ltb, le-ltb, eq-eqb, ne-eqb}
 use lib.ListN.{length, getD, set, length-map}
+use borrow.Author.Tests.{lt-ltb, le-ltb, eq-eqb, ne-eqb}
 use Rattle.lists.specs.Tests.{implies}
 use Rattle.lists.specs.Lists.{allAt}
 use Rattle.lists.proofs.Tests.{contradiction, cannot-pass, implies-intro}
 use Rattle.lists.proofs.Everywhere.{allAt-intro, allAt-elim}
 use Rattle.lists.proofs.Front.{front, front-more}
 use Rattle.tables.specs.declared.{Name.Name, Ticket.Ticket}
-use Rattle.tables.specs.Kinds.{isChild, isRecall}
 use Rattle.tables.specs.Names.{free}
 use Rattle.tables.proofs.Fits.{Owned, array-long}
 use Rattle.tables.proofs.Ticket as ticket
@@ -20,6 +19,7 @@ use Rattle.index.specs.declared.Flat.{Flat}
 use Rattle.index.specs.Places.{placeIn}
 use Rattle.index.proofs.Flat as flat
 use Rattle.recall_marks.specs.Keys.{keyOf, targetKey, childMarked}
+use Rattle.tables.specs.Kinds.{isChild, isRecall}
 
 abbrev pub deadKey : Name → ℕ
 deadKey n = 257 + (n .pad * 65536 + n .program) * 65536 + n .number

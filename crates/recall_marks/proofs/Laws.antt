@@ -3,19 +3,18 @@
 -- recalls. A place is a key just where the ticket there is the target of a recall: so every child is marked just where every child has
 -- one.
 use Prim.Native.Nat.{ℕ, _≤_, _<_}
+use native.Mathlib.Omega.{arith}
 use mathlib.Core.Path.{_≡_, refl, sym, ap, _∙_, subst}
 use mathlib.Core.Bool.{Bool, true, false}
 use mathlib.Core.List.{List, map}
-use native.Mathlib.Omega.{arith}
-use borrow.Author.Tests.{ltb-true, ltb-false, lt-ltb, eqb-true, eq-eqb, ne-eqb}
 use lib.Dec.{ltb, eqb}
 use lib.ListN.{length, getD, length-map}
+use borrow.Author.Tests.{ltb-true, ltb-false, lt-ltb, eqb-true, eq-eqb, ne-eqb}
 use Rattle.lists.specs.Tests.{implies}
 use Rattle.lists.specs.Lists.{some, noTwo, allAt}
 use Rattle.lists.proofs.Tests.{Case, pass, fail, case, contradiction, both-ways, implies-intro, implies-elim}
 use Rattle.lists.proofs.Everywhere.{allAt-intro, allAt-elim, some-intro, some-elim, noTwo-intro, noTwo-elim}
 use Rattle.tables.specs.declared.{Name.Name, Ticket.Ticket, Tables.Tables}
-use Rattle.tables.specs.Kinds.{isLive, isChild, isRecall}
 use Rattle.tables.specs.Names.{free, eqName}
 use Rattle.tables.specs.Order.{everyTicket, someTicket}
 use Rattle.tables.proofs.KindLaws.{live-child, live-recall}
@@ -25,6 +24,7 @@ use Rattle.index.specs.Places.{placed, nameAt, placeIn, Flattened, Numbered}
 use Rattle.index.proofs.Laws.{every-placed, placed-every, some-placed, placed-some, place-found, name-place}
 use Rattle.recall_marks.specs.Keys.{keyOf, targetKey, isPlace, isDead, childMarked}
 use Rattle.recall_marks.proofs.KeySteps.{deadKey, key-place, key-dead, key-none, key-recall, getD-mapped}
+use Rattle.tables.specs.Kinds.{isLive, isChild, isRecall}
 
 -- T6's tests of two tickets: no other recall has k's target; some recall has the target n
 abbrev pub oneRecall : Tables → Name → Ticket → Bool

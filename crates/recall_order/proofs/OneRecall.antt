@@ -1,18 +1,17 @@
 -- One recall by itself: what the code finds at its own name and at its target's key is what the tables have there, so each way through
 -- the code's tests settles `recallHolds`. A grant or a child that has no place is not there; an entry without a note is none.
 use Prim.Native.Nat.{ℕ, zero, suc, _+_, _*_, _≤_, _<_}
+use native.Mathlib.Omega.{arith}
 use mathlib.Core.Path.{_≡_, refl, sym, ap, _∙_, subst}
 use mathlib.Core.Bool.{Bool, true, false, not, _&&_, cond}
 use mathlib.Core.List.{List, [], _∷_, map}
-use native.Mathlib.Omega.{arith}
-use borrow.Author.Count.{below-more}
-use borrow.Author.Tests.{not-true, not-false, ltb-true, ltb-false, eq-eqb, ne-eqb, lt-leb, le-leb}
 use lib.Dec.{ltb}
 use lib.ListN.{length, getD, List·getD-eq-default}
+use borrow.Author.Count.{below-more}
+use borrow.Author.Tests.{not-true, not-false, ltb-true, ltb-false, eq-eqb, ne-eqb, lt-leb, le-leb}
 use Rattle.lists.specs.Tests.{implies, between}
 use Rattle.lists.proofs.Tests.{Case, pass, fail, case, contradiction, cannot-pass, and-l}
 use Rattle.tables.specs.declared.{Name.Name, Ticket.Ticket, Entry.Entry, Tables.Tables}
-use Rattle.tables.specs.Kinds.{isLive, isGrant, isChild, isRecall}
 use Rattle.tables.specs.Names.{free, noEntry, eqName, isProgram}
 use Rattle.tables.specs.Lookup.{lastOf, lookup, entryOf}
 use Rattle.tables.specs.Chains.{ownName}
@@ -26,6 +25,7 @@ use Rattle.index.proofs.Laws.{every-placed, placed-every, lookup-place, live-pl
 use Rattle.recall_marks.specs.Keys.{targetKey}
 use Rattle.recall_marks.proofs.Laws.{key-is-recall, recall-key, key-is-place, key-has-none, key-written}
 use Rattle.recall_order.specs.Recalls.{LaidOut, recallHolds}
+use Rattle.tables.specs.Kinds.{isLive, isGrant, isChild, isRecall}
 
 -- ---- tests
 -- a guard `if !f(..)`: what f told where it was left, and where it was taken
@@ -54,11 +54,14 @@ pub not-given-pad : (lasts : List ℕ) (n : Name) → 3 < n .pad → false ≡ (
 unfolding isProgram
 not-given-pad lasts n h = rw (lt-leb (n .pad) 3 h)
 
-pub not-given-program : (lasts : List ℕ) (n : Name) → n .pad ≤ 3 → 7 < n .program → false ≡ (isProgram (n .pad) (n .program) && between 1 (getD lasts (8 * n .pad + n .program) 0) (n .number))
+pub not-given-program : (lasts : List ℕ) (n : Name) → n .pad ≤ 3 → 7 < n .program
+    → false ≡ (isProgram (n .pad) (n .program) && between 1 (getD lasts (8 * n .pad + n .program) 0) (n .number))
 unfolding isProgram
 not-given-program lasts n p h = rw (le-leb (n .pad) 3 p, lt-leb (n .program) 7 h)
 
-pub given-number : (lasts : List ℕ) (n : Name) → n .pad ≤ 3 → n .program ≤ 7 → between 1 (getD lasts (8 * n .pad + n .program) 0) (n .number) ≡ (isProgram (n .pad) (n .program) && between 1 (getD lasts (8 * n .pad + n .program) 0) (n .number))
+pub given-number : (lasts : List ℕ) (n : Name) → n .pad ≤ 3 → n .program ≤ 7
+    → between 1 (getD lasts (8 * n .pad + n .program) 0) (n .number)
+    ≡ (isProgram (n .pad) (n .program) && between 1 (getD lasts (8 * n .pad + n .program) 0) (n .number))
 unfolding isProgram
 given-number lasts n p q = rw (le-leb (n .pad) 3 p, le-leb (n .program) 7 q)
 
@@ -88,7 +91,8 @@ module _ {t : Tables} {f : Flat} {es : List Entry} {numbers notes : List ℕ} (i
 
   -- ---- one place more, and all places
   module _ (i : ℕ) where
-    pub held-more : i < 256 → Held t i → (isRecall (getD (f .tickets) i free .kind) ≡ true → recallHolds t (nameAt i (getD (f .tickets) i free)) (getD (f .tickets) i free) ≡ true) → Held t (i + 1)
+    pub held-more : i < 256 → Held t i
+        → (isRecall (getD (f .tickets) i free .kind) ≡ true → recallHolds t (nameAt i (getD (f .tickets) i free)) (getD (f .tickets) i free) ≡ true) → Held t (i + 1)
     held-more h before here =
         below-more _ i before
         (subst (λ (k : Ticket). isRecall (k .kind) ≡ true → recallHolds t (nameAt i k) k ≡ true) (ix .flat .same i h) here)

@@ -8,7 +8,6 @@ use lib.ListN.{getD}
 use Rattle.lists.specs.Lists.{some, noTwo, allAt}
 use Rattle.lists.proofs.Tests.{both-ways, not-pass, and-l, and-r, and-intro}
 use Rattle.tables.specs.declared.{Entry.Entry, Tables.Tables}
-use Rattle.tables.specs.Kinds.{isChild, isRecall}
 use Rattle.tables.specs.Names.{free}
 use Rattle.tables.specs.Order.{everyTicket, recallOk, t6}
 use Rattle.tables.proofs.Fits.{Owned, NameFits, array-at, ticket-fits}
@@ -19,6 +18,7 @@ use Rattle.index.proofs.Laws.{every-placed, placed-every}
 use Rattle.recall_marks.specs.Keys.{targetKey, isPlace, isDead, Marked, childMarked}
 use Rattle.recall_marks.proofs.Laws.{oneRecall, hasRecall, once-keys, keys-once, children-recalled}
 use Rattle.recall_order.specs.Recalls.{LaidOut, recallHolds}
+use Rattle.tables.specs.Kinds.{isChild, isRecall}
 
 -- a target's numbers fit 16 bits
 pub targets-fit : (f : Flat) → Owned flat.the-field f → (p : ℕ) → p < 256 → NameFits (getD (f .tickets) p free .other)

@@ -2,10 +2,10 @@
 -- ones behind free places that hold the remains of others. So the theorem is about more than equal tables, and what a request leaves need
 -- not be equal.
 use Prim.Native.Nat.{ℕ}
+use native.Mathlib.Omega.{arith}
 use mathlib.Core.Path.{_≡_, refl, sym, ap, _∙_}
 use mathlib.Core.Bool.{true, false, _&&_}
 use mathlib.Core.List.{List, [], _∷_}
-use native.Mathlib.Omega.{arith}
 use lib.Dec.{eqb}
 use lib.ListN.{length, getD, replicate}
 use Rattle.lists.specs.Tests.{implies, between}
@@ -19,8 +19,7 @@ use Rattle.tables.specs.Lookup.{Sized, programAt, lastOf, hasNumber, ticketIn, 
 use Rattle.tables.specs.Chains.{reaches, endOf}
 use Rattle.tables.specs.Sheets.{apart, inside}
 use Rattle.tables.specs.Change.{withProgram}
-use Rattle.tables.specs.Order.{everyTicketOf, everyTicket, someTicketOf, someTicket, everyEntry, numbersOk, t1, spanOk, t2, parentOk, childOk, t3, t4}
-use Rattle.tables.specs.Order.{entryNamesOk, grantOk, parentEntryOk, entryOk, rootsOk, t5, recallParentOk, isChildOf, farTargetOk, targetOk, recallOk, t6, inOrder}
+use Rattle.tables.specs.Order.{everyTicketOf, everyTicket, someTicketOf, someTicket, everyEntry, numbersOk, t1, spanOk, t2, parentOk, childOk, t3, t4, entryNamesOk, grantOk, parentEntryOk, entryOk, rootsOk, t5, recallParentOk, isChildOf, farTargetOk, targetOk, recallOk, t6, inOrder}
 use Rattle.tables.specs.Same.{said, saidEntry, SameTables}
 use Rattle.tables.proofs.NameLaws.{program-same}
 use Rattle.machine.specs.declared.Request.{Request}

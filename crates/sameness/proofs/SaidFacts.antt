@@ -1,19 +1,19 @@
 -- What two tables that are the same have in common: the next names; of tickets the kinds, the sheets, rights and dock names of grants, the
 -- targets of recalls, the parents on the pad; and of entries all but a parent that is the store, which either side may write in its own way.
 use Prim.Native.Nat.{ℕ, suc, _≤_}
+use native.Mathlib.Omega.{arith}
 use mathlib.Core.Path.{_≡_, refl, sym, ap, _∙_}
 use mathlib.Core.Bool.{Bool, true, false, cond}
-use native.Mathlib.Omega.{arith}
 use Rattle.lists.proofs.Tests.{no-true}
 use Rattle.rights.specs.declared.Rights.{Rights}
 use Rattle.tables.specs.declared.{Name.Name, Kind.Kind, Ticket.Ticket, Entry.Entry, Tables.Tables}
 use Rattle.tables.specs.declared.Kind.the-variants.{Free, Taken, Received, Child, Recall}
-use Rattle.tables.specs.Kinds.{isGrant, isRecall}
 use Rattle.tables.specs.Names.{nameOf, noName, isNone}
 use Rattle.tables.specs.Lookup.{lookup, entryOf}
 use Rattle.tables.specs.Chains.{parentBy, parentOf}
 use Rattle.tables.specs.Change.{newName}
 use Rattle.tables.specs.Same.{saidBy, said, saidEntry, SameTables}
+use Rattle.tables.specs.Kinds.{isGrant, isRecall}
 
 -- ---- what a ticket of each kind says
 said-kind : (c : Kind) (k : Ticket) → saidBy c k .kind ≡ c

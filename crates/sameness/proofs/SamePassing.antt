@@ -16,8 +16,7 @@ use Rattle.machine.specs.declared.Request.{Request}
 use Rattle.machine.specs.State.{askedName, asked}
 use Rattle.machine.specs.Pass.{passTables}
 use Rattle.preservation.specs.InOrder.{InOrder}
-use Rattle.preservation.proofs.Passing.{MayPass, recallName, grantName, newRecall, newChild, newReceived, newEntry}
-use Rattle.preservation.proofs.Passing.{PassEffect, pass-near, pass-near-entries, pass-far, pass-far-entry}
+use Rattle.preservation.proofs.Passing.{MayPass, recallName, grantName, newRecall, newChild, newReceived, newEntry, PassEffect, pass-near, pass-near-entries, pass-far, pass-far-entry}
 use Rattle.sameness.proofs.SaidFacts.{new-name-same, same-first, same-dock}
 
 module _ (t u : Tables) (ok : InOrder t) (ok′ : InOrder u) (same : SameTables t u) (r : Request) (may : MayPass t r) (may′ : MayPass u r) where

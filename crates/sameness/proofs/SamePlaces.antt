@@ -1,16 +1,15 @@
 -- Places agree in tables in order that are the same: a program has a free place in both or in neither, a run of sheets is free in both or in
 -- neither, and so the lowest free run is one run.
 use Prim.Native.Nat.{ℕ, _+_, _≤_, _<_}
+use native.Mathlib.Omega.{arith}
 use mathlib.Core.Path.{_≡_, refl, sym, ap, _∙_, fun-ext}
 use mathlib.Core.Bool.{Bool, true, false, not, _&&_, _||_}
-use native.Mathlib.Omega.{arith}
 use lib.Dec.{leb, ltb}
 use Rattle.lists.specs.Tests.{implies}
 use Rattle.lists.specs.Lists.{all, least}
 use Rattle.lists.proofs.Tests.{both-ways}
 use Rattle.lists.proofs.KeyedSame.{room-there}
 use Rattle.tables.specs.declared.{Ticket.Ticket, Entry.Entry, Tables.Tables}
-use Rattle.tables.specs.Kinds.{isLive}
 use Rattle.tables.specs.Names.{nameOf}
 use Rattle.tables.specs.Lookup.{ticketsOf, lookup, entryOf}
 use Rattle.tables.specs.Change.{isFree, hasPlace}
@@ -23,6 +22,7 @@ use Rattle.preservation.specs.InOrder.{InOrder}
 use Rattle.preservation.proofs.TestsByName.{every-entry-intro}
 use Rattle.sameness.proofs.SameIsEquivalence.{same-sym}
 use Rattle.sameness.proofs.SaidFacts.{same-kind, same-live, same-entry-first, same-entry-count}
+use Rattle.tables.specs.Kinds.{isLive}
 
 -- ---- one way
 module _ (t u : Tables) (ok : InOrder t) (ok′ : InOrder u) (same : SameTables t u) where

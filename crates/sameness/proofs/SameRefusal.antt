@@ -1,12 +1,11 @@
 -- A request gets the same refusal on two tables in order that are the same: every test looks only at what they have in common. The dock's
 -- own check too.
 use Prim.Native.Nat.{ℕ, _≤_}
+use native.Mathlib.Omega.{arith}
 use mathlib.Core.Path.{_≡_, sym, ap}
 use mathlib.Core.Bool.{true, not}
-use native.Mathlib.Omega.{arith}
 use lib.Dec.{leb}
 use Rattle.tables.specs.declared.{Name.Name, Tables.Tables}
-use Rattle.tables.specs.Kinds.{isLive, isGrant, isRecall}
 use Rattle.tables.specs.Order.{inOrder}
 use Rattle.tables.specs.Same.{SameTables}
 use Rattle.tables.proofs.NameLaws.{is-program}
@@ -24,9 +23,9 @@ use Rattle.machine.specs.Step.{ownRefusal, requestRefusal}
 use Rattle.machine.proofs.RefusalLaws.{agree-for-grants, refusals-agree}
 use Rattle.preservation.specs.InOrder.{InOrder}
 use Rattle.preservation.proofs.Preconditions.{pass-fields}
-use Rattle.sameness.proofs.SaidFacts.{same-kind, same-first, same-count, same-rights, same-dock}
-use Rattle.sameness.proofs.SaidFacts.{same-live, same-entry-first, same-entry-count, same-entry-rights}
+use Rattle.sameness.proofs.SaidFacts.{same-kind, same-first, same-count, same-rights, same-dock, same-live, same-entry-first, same-entry-count, same-entry-rights}
 use Rattle.sameness.proofs.SamePlaces.{place-same, has-run-same}
+use Rattle.tables.specs.Kinds.{isLive, isGrant, isRecall}
 
 module _ (t u : Tables) (same : SameTables t u) where
   -- ---- the dock's check

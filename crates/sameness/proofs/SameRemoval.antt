@@ -5,7 +5,6 @@ use mathlib.Core.Bool.{Bool, true, false, _||_, cond}
 use lib.Dec.{eqb}
 use Rattle.lists.proofs.Tests.{Case, pass, fail, case}
 use Rattle.tables.specs.declared.{Name.Name, Ticket.Ticket, Entry.Entry, Tables.Tables}
-use Rattle.tables.specs.Kinds.{isRecall}
 use Rattle.tables.specs.Names.{eqName, free, noEntry}
 use Rattle.tables.specs.Lookup.{lookup, entryOf}
 use Rattle.tables.specs.Chains.{atOrUnder, chainHead, atOrBelow}
@@ -20,6 +19,7 @@ use Rattle.preservation.proofs.AfterChange.{removed, lookup-removed, entry-remo
 use Rattle.preservation.proofs.RemovingOperations.{drop-no-entry}
 use Rattle.sameness.proofs.SaidFacts.{same-target}
 use Rattle.sameness.proofs.SameWalks.{under-same, head-same, below-same}
+use Rattle.tables.specs.Kinds.{isRecall}
 
 -- what is dropped on both sides or kept on both
 said-dropped : (b : Bool) (k m : Ticket) → said k ≡ said m → said (cond b free k) ≡ said (cond b free m)

@@ -12,8 +12,8 @@ use Rattle.preservation.proofs.Walks.{end-good}
 use Rattle.preservation.proofs.RuleFacts.{positive, entry-head, live-named, parent-live}
 use Rattle.preservation.proofs.Places.{parent-pad, entry-chain-short}
 use Rattle.preservation.proofs.TestMeansOrder.{test-means-order}
-use Rattle.dock.specs.Links.{LinkedEntries}
 use Rattle.under.specs.Linked.{Linked}
+use Rattle.below.specs.Links.{LinkedEntries}
 use Rattle.served.specs.Ready.{Ready}
 
 module _ (t : Tables) (ok : InOrder t) where

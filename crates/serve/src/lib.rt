@@ -23,7 +23,7 @@ pub fn request(t: Tables, store: &mut [u8], sheet: &mut [u8], r: Request) -> Ser
         1 => take::take(t, store, r),
         2 => pass::pass(t, r),
         3 => recall::recall(t, r),
-        4 => recall::give_back(t, store, r),
+        4 => give_back::give_back(t, store, r),
         5 => access::read(t, store, sheet, r),
         _ => access::write(t, store, sheet, r),
     }

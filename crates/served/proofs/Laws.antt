@@ -1,17 +1,23 @@
 -- What is served where the request passed 1, 2 and 3: from the operation's own refusal, the outcome.
 use Prim.Native.Nat.{ℕ}
-use mathlib.Core.Path.{_≡_, refl, sym, ap, _∙_}
+use mathlib.Core.Path.{_≡_, refl, sym, ap, subst, _∙_}
+use mathlib.Core.Bool.{true}
 use mathlib.Core.List.{List}
 use borrow.Author.Tests.{ne-eqb}
-use Rattle.tables.specs.declared.Tables.{Tables}
+use Rattle.tables.specs.declared.{Name.Name, Pad.Pad, Tables.Tables}
 use Rattle.tables.specs.Lookup.{ticketsOf, ticketIn, lookup}
+use Rattle.tables.specs.Chains.{chainHead, atOrUnder}
+use Rattle.tables.specs.Change.{dropTickets}
 use Rattle.machine.specs.declared.Request.{Request}
-use Rattle.machine.specs.State.{State, refused, withTables, asked}
+use Rattle.machine.specs.State.{State, refused, withTables, askedName, asked}
 use Rattle.machine.specs.Operation.{Operation, operationOf}
 use Rattle.machine.specs.Step.{ownRefusal, afterOwn, dropHead, outcome, serve}
+use Rattle.pads.specs.OnePad.{withPad}
+use Rattle.under.specs.Linked.{OnPad}
 use Rattle.request.specs.Early.{earlyRefusal}
 use Rattle.request.proofs.Laws.{serve-past}
 use Rattle.served.specs.Outcomes.{stateOf, outcomeOf, answered}
+use Rattle.tables.specs.Kinds.{isLive}
 
 module _ (t : Tables) (store sheet : List ℕ) (r : Request) (z : earlyRefusal r ≡ 0) (op : Operation) (o : operationOf (r .op) ≡ op) where
   abbrev before : State
@@ -36,3 +42,12 @@ module _ (t : Tables) (store sheet : List ℕ) (r : Request) (z : earlyRefusal r
 pub asked-in : (t : Tables) (r : Request) → asked t r ≡ ticketIn (ticketsOf t (r .pad) (r .program)) (r .ticket)
 unfolding lookup
 asked-in t r = refl
+
+-- ---- 12: the asker's pad without the head of the ticket's chain and all under it, put back in its place
+pub lost-pad : (t : Tables) (r : Request) (p rest : Pad) (n : Name) → n ≡ askedName r → OnPad t (r .pad) p → isLive (asked t r .kind) ≡ true
+    → ((u : Tables) → OnPad u (n .pad) p → isLive (lookup u n .kind) ≡ true → withPad u (n .pad) rest ≡ dropTickets (atOrUnder u (chainHead u n)) u)
+    → withPad t (r .pad) rest ≡ dropHead t r
+unfolding dropHead
+lost-pad t r p rest n e on live dropped =
+    subst (λ (m : Name). withPad t (m .pad) rest ≡ dropTickets (atOrUnder t (chainHead t m)) t) e
+    (dropped t (subst (λ (m : Name). OnPad t (m .pad) p) (sym e) on) (subst (λ (m : Name). isLive (lookup t m .kind) ≡ true) (sym e) live))

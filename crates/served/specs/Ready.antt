@@ -1,4 +1,4 @@
--- What serving a request needs of the tables. All of it follows from tables in order (step/proofs).
+-- What serving a request needs of the tables. All of it follows from tables in order (serve/proofs/FromOrder).
 use Prim.Native.Nat.{ℕ, _+_, _≤_}
 use mathlib.Core.Path.{_≡_}
 use mathlib.Core.Bool.{true}
@@ -7,7 +7,7 @@ use Rattle.tables.specs.Kinds.{isGrant}
 use Rattle.tables.specs.Lookup.{lookup}
 use Rattle.machine.specs.declared.Request.{Request}
 use Rattle.request.specs.Early.{earlyRefusal}
-use Rattle.dock.specs.Links.{LinkedEntries}
+use Rattle.below.specs.Links.{LinkedEntries}
 use Rattle.under.specs.Linked.{Linked}
 
 pub record Ready (t : Tables) : Type 0 where

@@ -1,10 +1,6 @@
-// What the operations have in common: what a refusal hands back, and what 12 drops.
+// What the operations have in common: what a refusal hands back, and the name of the ticket asked for.
 ghost use mathlib.Core.Path.{_≡_};
-ghost use mathlib.Core.Bool.{true};
-ghost use Rattle.tables.specs.Kinds.{isLive};
-ghost use Rattle.machine.specs.State.{askedName, asked};
-ghost use Rattle.machine.specs.Step.{dropHead};
-ghost use Rattle.under.specs.Linked.{Linked};
+ghost use Rattle.machine.specs.State.{askedName};
 ghost use Rattle.served.specs.Outcomes.{answered};
 use machine::Answer;
 use machine::Request;
@@ -36,14 +32,4 @@ pub fn asked_name(r: Request) -> Name
         program: r.program,
         number: r.ticket,
     }
-}
-
-// 12: the pad drops the grant that heads the chain of the asker's ticket, and all under it.
-pub fn lost(t: Tables, r: Request) -> Served
-    requires { ⌜ Linked t × (isLive (asked t r .kind) ≡ true) ⌝ }
-    ensures { λ d. ⌜ d ≡ answered (dropHead t r) 12 ⌝ }
-{
-    let n = asked_name(r);
-    let u = under::drop_head(t, n);
-    answer(u, 12)
 }

@@ -3,8 +3,8 @@ use Prim.Native.Nat.{ℕ}
 use mathlib.Core.Path.{_≡_, refl, sym, ap, _∙_}
 use mathlib.Core.Bool.{true, false}
 use mathlib.Core.List.{List}
-use borrow.Author.Tests.{eq-eqb, ne-eqb}
 use lib.ListN.{length, replicate}
+use borrow.Author.Tests.{eq-eqb, ne-eqb}
 use Rattle.tables.specs.declared.Tables.{Tables}
 use Rattle.tables.specs.Names.{emptyTables}
 use Rattle.tables.specs.Order.{inOrder}

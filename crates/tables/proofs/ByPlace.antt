@@ -1,29 +1,33 @@
 -- What stands at a place, and what a name finds: a name that finds a live ticket is one of the 32 programs', and a test of every ticket,
 -- of some ticket or of every live entry is a test of every place. All of it needs the arrays' lengths and no more.
 use Prim.Native.Nat.{ℕ, _≤_, _<_}
+use native.Mathlib.Omega.{arith}
 use mathlib.Core.Path.{_≡_, sym, ap, subst}
 use mathlib.Core.Bool.{Bool, true, _&&_}
-use native.Mathlib.Omega.{arith}
+use mathlib.Core.List.{List}
 use lib.Dec.{ltb}
 use lib.ListN.{length, getD, List·getD-eq-default}
 use borrow.Author.Tests.{ltb-true, ltb-false}
 use Rattle.lists.specs.Tests.{implies}
-use Rattle.lists.specs.Lists.{firstIndex, allAt, someAt}
+use Rattle.lists.specs.Lists.{firstIndex, all, allAt, someAt}
 use Rattle.lists.proofs.Tests.{Case, pass, fail, case, implies-intro, implies-elim}
 use Rattle.lists.proofs.Everywhere.{all-intro, all-elim, allAt-intro, allAt-elim, Somewhere, some-intro, some-elim, someAt-intro, someAt-elim}
 use Rattle.lists.proofs.Keyed.{found-low, found-key}
 use Rattle.tables.specs.declared.{Name.Name, Kind.Kind, Ticket.Ticket, Program.Program, Pad.Pad, Entry.Entry, Tables.Tables}
-use Rattle.tables.specs.Kinds.{isLive}
 use Rattle.tables.specs.Names.{nameOf, free, noEntry, noProgram, noPad}
 use Rattle.tables.specs.Lookup.{Sized, padAt, programAt, ticketsOf, hasNumber, ticketIn, lookup, isNamed, entryIn, entryOf}
-use Rattle.tables.specs.Order.{everyTicketOf, everyTicket, someTicketOf, someTicket, everyEntry}
+use Rattle.tables.specs.Order.{everyTicketOf, everyTicket, someTicketOf, someTicket, everyEntry, numbersOk, t1}
 use Rattle.tables.proofs.Keys.{ticketKeys, entryKeys, ticketLaws, entryLaws}
+use Rattle.tables.specs.Kinds.{isLive}
 
 abbrev pub ticketAt : Tables → ℕ → ℕ → ℕ → Ticket
 ticketAt t pad program i = getD (ticketsOf t pad program) i free
 
+abbrev pub at : List Entry → ℕ → Entry
+at es i = getD es i noEntry
+
 abbrev pub entryAt : Tables → ℕ → Entry
-entryAt t i = getD (t .entries) i noEntry
+entryAt t i = at (t .entries) i
 
 pub record InRange (n : Name) : Type 0 where
   pub pad : n .pad < 4
@@ -73,6 +77,12 @@ module _ (t : Tables) (z : Sized t) where
 
   pub program-low : {p q : ℕ} → p < 4 → q < 8 → q < length (padAt t p .programs)
   program-low {p} b c = rw (z .programs p b) c
+
+  -- ---- T1, of each program
+  pub numbers-at : t1 t ≡ true → {p q : ℕ} → p < 4 → q < 8 → numbersOk (programAt t p q) ≡ true
+  unfolding t1
+  numbers-at rule {p} {q} b c =
+      all-elim noProgram numbersOk (padAt t p .programs) (all-elim noPad (λ a. all numbersOk (a .programs)) (t .pads) rule p (pad-low b)) q (program-low b c)
 
   -- ---- every live entry
   pub every-entry-elim : (test : Entry → Bool) → everyEntry test t ≡ true → (n : Name) → entryOf t n .live ≡ true → test (entryOf t n) ≡ true

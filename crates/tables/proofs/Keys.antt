@@ -6,10 +6,10 @@ use lib.Dec.{eqb}
 use borrow.Author.Tests.{eqb-true, eq-eqb}
 use Rattle.lists.proofs.Keyed.{Keys, Lawful, byKey}
 use Rattle.tables.specs.declared.{Name.Name, Ticket.Ticket, Entry.Entry, Tables.Tables}
-use Rattle.tables.specs.Kinds.{isLive}
 use Rattle.tables.specs.Names.{eqName, free, noEntry}
 use Rattle.tables.specs.Lookup.{ticketsOf, hasNumber, ticketIn, lookup, isNamed, entryIn, entryOf}
 use Rattle.tables.proofs.NameLaws.{eqName-true, eqName-refl}
+use Rattle.tables.specs.Kinds.{isLive}
 
 abbrev pub ticketKeys : Keys Ticket ℕ
 ticketKeys = record { live = λ k. isLive (k .kind); key = λ k. k .number; same = eqb; none = free }

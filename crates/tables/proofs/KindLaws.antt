@@ -7,9 +7,9 @@ use borrow.Author.Tests.{not-true}
 use Rattle.lists.proofs.Tests.{no-true, and-l, and-r, contradiction}
 use Rattle.tables.specs.declared.{Name.Name, Kind.Kind, Ticket.Ticket}
 use Rattle.tables.specs.declared.Kind.the-variants.{Free, Taken, Received, Child, Recall}
-use Rattle.tables.specs.Kinds.{isLive, isGrant, isHead, isTaken, isReceived, isChild, isRecall}
 use Rattle.tables.specs.Names.{isNone}
 use Rattle.tables.specs.Chains.{ownName, parentBy}
+use Rattle.tables.specs.Kinds.{isLive, isGrant, isHead, isTaken, isReceived, isChild, isRecall}
 
 -- ---- by the five kinds
 abbrev everyKind : (Kind → Bool) → Bool

@@ -1,5 +1,6 @@
 pub mod KindLaws
 pub mod NameLaws
+pub mod Links
 pub mod Keys
 pub mod ByPlace
 pub mod Fits

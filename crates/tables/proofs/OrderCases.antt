@@ -14,10 +14,8 @@ use Rattle.tables.specs.Names.{nameOf, noName, eqName, isProgram, grantT
 use Rattle.tables.specs.Lookup.{hasNumber, ticketIn, lookup, isNamed, entryIn}
 use Rattle.tables.specs.Chains.{reaches, endOf}
 use Rattle.tables.specs.Sheets.{apart, inside}
-use Rattle.tables.specs.Order.{everyTicketOf, everyTicket, someTicketOf, someTicket, everyEntry, numbersOk, t1, spanOk, t2, parentOk, childOk, t3, t4}
-use Rattle.tables.specs.Order.{entryNamesOk, grantOk, parentEntryOk, entryOk, rootsOk, t5, recallParentOk, isChildOf, farTargetOk, targetOk, recallOk, t6}
-use Rattle.tables.specs.Change.{isFree, withTicket, withProgram, give, isSpare, putEntry}
-use Rattle.tables.specs.Change.{dropTicket, dropInProgram, dropInPad, dropTickets, dropEntry, dropEntries}
+use Rattle.tables.specs.Order.{everyTicketOf, everyTicket, someTicketOf, someTicket, everyEntry, numbersOk, t1, spanOk, t2, parentOk, childOk, t3, t4, entryNamesOk, grantOk, parentEntryOk, entryOk, rootsOk, t5, recallParentOk, isChildOf, farTargetOk, targetOk, recallOk, t6}
+use Rattle.tables.specs.Change.{isFree, withTicket, withProgram, give, isSpare, putEntry, dropTicket, dropInProgram, dropInPad, dropTickets, dropEntry, dropEntries}
 use Rattle.tables.proofs.Building.{head, child, entry, withTaken, withReceived, withStale, swap, swapEntry, swapBoth, withLast}
 
 firstBroken : Tables → ℕ

@@ -5,24 +5,32 @@ use mathlib.Core.Path.{_≡_, _∙_}
 use mathlib.Core.Bool.{true, false}
 use mathlib.Core.List.{List}
 use borrow.Author.Tests.{le-leb, lt-leb}
+use Rattle.rights.specs.declared.Rights.{Rights}
 use Rattle.rights.specs.Rules.{rightsOf}
-use Rattle.tables.specs.declared.Tables.{Tables}
-use Rattle.tables.specs.Names.{nameOf}
-use Rattle.tables.specs.Lookup.{lastOf}
+use Rattle.tables.specs.declared.{Name.Name, Ticket.Ticket, Pad.Pad, Entry.Entry, Tables.Tables}
+use Rattle.tables.specs.declared.Kind.the-variants.{Taken}
+use Rattle.tables.specs.Names.{nameOf, noName, headTicket, entryFor}
+use Rattle.tables.specs.Lookup.{padAt, lastOf}
 use Rattle.tables.specs.Sheets.{lowestRun}
-use Rattle.tables.specs.Change.{hasPlace}
+use Rattle.tables.specs.Change.{hasPlace, give, putEntry}
 use Rattle.machine.specs.declared.Request.{Request}
 use Rattle.machine.specs.State.{answerOf, accepted, clearSheets}
 use Rattle.machine.specs.Refusal.{_when_else_, isSpent}
 use Rattle.machine.specs.Operation.{taking, operationOf}
 use Rattle.machine.specs.Take.{takeRefusal, takeTables, afterTake}
 use Rattle.machine.specs.Step.{ownRefusal, afterOwn, serve}
+use Rattle.pads.specs.OnePad.{givePad, withPad}
+use Rattle.pads.proofs.Laws.{give-pad}
+use Rattle.free_run.proofs.Laws.{run-found, no-run-found}
 use Rattle.request.proofs.Numbers.{op-take}
-use Rattle.dock.proofs.Laws.{run-found, no-run-found}
 use Rattle.served.specs.Outcomes.{stateOf, outcomeOf, answered}
 use Rattle.served.specs.Ready.{Asks}
 use Rattle.served.proofs.Laws.{served-done, served-refused}
-use Rattle.take.specs.Taken.{takenAt}
+
+-- a taken grant of the name n given, its entry made under the store: the machine's `takeTables`, for sheets that were found
+unfoldable takenAt : Tables → Name → ℕ → ℕ → Rights → Tables
+takenAt t n first count rights =
+    putEntry (give t (n .pad) (n .program) (headTicket Taken n first count rights)) (entryFor n noName first count rights)
 
 own : (t : Tables) (r : Request) {n : ℕ} → takeRefusal t r ≡ n → ownRefusal taking t r ≡ n
 unfolding ownRefusal
@@ -72,8 +80,20 @@ module _ (t : Tables) (store : List ℕ) (r : Request) (asks : Asks 1 r) where
       unfolding takeRefusal _when_else_ isSpent
       passes h = rw (place, lt-leb 65535 (lastOf t (r .pad) (r .program)) left, run-found (t .entries) (r .count) (omega (arith, h, e)))
 
-      pub taken : first < 256 → (number : ℕ) → number ≡ suc (lastOf t (r .pad) (r .program)) → (u : Tables)
-          → u ≡ takenAt t (nameOf (r .pad) (r .program) number) first (r .count) (rightsOf (r .rights)) → (sheet : List ℕ)
+      -- the pad and the entry that the code has made
+      pub taken : first < 256 → (number : ℕ) → number ≡ suc (lastOf t (r .pad) (r .program))
+          → {k : Ticket} → k ≡ headTicket Taken (nameOf (r .pad) (r .program) number) first (r .count) (rightsOf (r .rights))
+          → {none : Name} → none ≡ noName
+          → {e : Entry} → e ≡ entryFor (nameOf (r .pad) (r .program) number) none first (r .count) (rightsOf (r .rights))
+          → {given : Pad} → given ≡ givePad (padAt t (r .pad)) (r .program) k → {u : Tables} → u ≡ putEntry (withPad t (r .pad) given) e
+          → (sheet : List ℕ)
           → outcomeOf (record { answer = answerOf 0 number 0; tables = u }) (clearSheets first (r .count) store) sheet ≡ serve (stateOf t store sheet) r
-      taken h number m u v sheet =
-          after t store r first e number m u v sheet ∙ served-done t store sheet r (asks .early) taking op (own t r (passes h))
+      unfolding takenAt
+      taken h number m {k} made none entered given v sheet =
+          let n : Name = nameOf (r .pad) (r .program) number in
+          after t store r first e number m _
+          (v ∙ (λ i. putEntry (withPad t (r .pad) (given i)) (entered i))
+          ∙ (λ i. putEntry (give-pad t (r .pad) (r .program) k i) (entryFor n (none i) first (r .count) (rightsOf (r .rights))))
+          ∙ (λ i. putEntry (give t (r .pad) (r .program) (made i)) (entryFor n noName first (r .count) (rightsOf (r .rights)))))
+          sheet
+          ∙ served-done t store sheet r (asks .early) taking op (own t r (passes h))

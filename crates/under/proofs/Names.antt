@@ -12,17 +12,17 @@ use Rattle.lists.proofs.Tests.{and-r, both-ways}
 use Rattle.lists.proofs.Search.{find-passes}
 use Rattle.lists.proofs.Keyed.{Distinct, found-low, found-key, found-somewhere}
 use Rattle.tables.specs.declared.{Name.Name, Tables.Tables}
-use Rattle.tables.specs.Kinds.{isLive}
 use Rattle.tables.specs.Names.{nameOf, eqName, free, noProgram}
 use Rattle.tables.specs.Lookup.{Sized, padAt, ticketsOf, hasNumber, ticketIn, lookup}
 use Rattle.tables.proofs.NameLaws.{name-eq, eqName-true, eqName-refl}
 use Rattle.tables.proofs.Keys.{ticketKeys, ticketLaws}
 use Rattle.tables.proofs.ByPlace.{ticketAt, place-low, name-in-range}
 use Rattle.index.proofs.Laws.{first-number}
-use Rattle.under.specs.Places.{numbersIn, numbersOf, placeIn}
-use Rattle.under.proofs.Steps.{indexIn, place-here, Placed, placed}
-use Rattle.under.proofs.Rows.{row-at}
-use Rattle.under.proofs.PadRows.{PadSized, number-rows}
+use Rattle.pad_places.specs.Places.{numbersIn, numbersOf, placeIn}
+use Rattle.pad_places.proofs.Places.{indexIn, place-here, Placed, placed}
+use Rattle.pad_places.proofs.Rows.{row-at}
+use Rattle.pad_places.proofs.PadRows.{PadSized, number-rows}
+use Rattle.tables.specs.Kinds.{isLive}
 
 module _ (t : Tables) (z : Sized t) (a : ℕ) (low : a < 4) where
   pub sized : PadSized (padAt t a)

@@ -7,19 +7,21 @@ use mathlib.Core.List.{List}
 use lib.Dec.{eqb}
 use lib.ListN.{length, set}
 use Rattle.lists.proofs.Loops.{map-at, mapAt-agree, mapAt-kept, mapAt-one-kept}
-use Rattle.chains.specs.Walk.{endFrom, leadsTo}
 use Rattle.tables.specs.declared.{Name.Name, Ticket.Ticket, Program.Program, Pad.Pad, Tables.Tables}
-use Rattle.tables.specs.Kinds.{isLive}
 use Rattle.tables.specs.Names.{nameOf, eqName, free, noProgram, noPad}
 use Rattle.tables.specs.Lookup.{Sized, padAt, programAt, ticketsOf, lookup}
 use Rattle.tables.specs.Chains.{atOrUnder, chainHead}
 use Rattle.tables.specs.Change.{dropTicket, dropInProgram, dropInPad, dropTickets}
 use Rattle.tables.proofs.ByPlace.{ticketAt}
-use Rattle.under.specs.Places.{numbersOf, placeIn, upsOf, goes, clearAt, clearIn, clearPad}
-use Rattle.under.specs.Linked.{Linked}
+use Rattle.chains.specs.Walk.{endFrom, leadsTo}
+use Rattle.pads.specs.OnePad.{withPad}
+use Rattle.pad_places.specs.Places.{numbersOf, placeIn, upsOf}
+use Rattle.under.specs.Cleared.{goes, clearAt, clearIn, clearPad}
+use Rattle.under.specs.Linked.{Linked, OnPad}
 use Rattle.under.proofs.Laws.{at-itself}
 use Rattle.under.proofs.Names.{live-named, own-index}
 use Rattle.under.proofs.Walks.{ups, ups-64, place, Here, here-at, place-low, name-marks, leads, ends, Away, name-missed, far, ends-missed}
+use Rattle.tables.specs.Kinds.{isLive}
 
 -- a ticket that the test does not pick, or that is not there, stays
 pick : (a b c : Bool) (k : Ticket) → (a ≡ true → b ≡ c) → cond (a && b) free k ≡ cond (a && c) free k
@@ -31,10 +33,6 @@ stays true b k h = ap (λ (d : Bool). cond d free k) (h refl)
 stays false b k h = refl
 
 module _ (t : Tables) (z : Sized t) (link : Linked t) (a : ℕ) (low : a < 4) where
-  -- the tables with another pad in the place of pad a
-  abbrev pub withPad : Pad → Tables
-  withPad p = record { pads = set (t .pads) a p; entries = t .entries }
-
   module _ (gone : Name → Bool) (test : ℕ → Bool) (same : (n : Name) → Here t z link a low n → test (place t z link a low n) ≡ gone n)
       (none : (n : Name) → Away t z link a low n → gone n ≡ false) where
     -- ---- on the pad
@@ -75,7 +73,7 @@ module _ (t : Tables) (z : Sized t) (link : Linked t) (a : ℕ) (low : a < 4) wh
         ap (λ (l : List Program). record { programs = l })
         (mapAt-kept noProgram (dropInProgram gone p) (padAt t p .programs) (λ b c. other-program p b ne))
 
-    removed : dropTickets gone t ≡ withPad (clearPad test (padAt t a))
+    removed : dropTickets gone t ≡ withPad t a (clearPad test (padAt t a))
     unfolding dropTickets
     removed =
         ap (λ (l : List Pad). record { pads = l; entries = t .entries })
@@ -83,7 +81,7 @@ module _ (t : Tables) (z : Sized t) (link : Linked t) (a : ℕ) (low : a < 4) wh
 
   -- ---- `also`, x and all under x
   pub removed-under : (also x : Name) → also .pad ≡ a → x .pad ≡ a
-      → withPad (clearPad (goes (ups t z link a low) (place t z link a low also) (place t z link a low x)) (padAt t a))
+      → withPad t a (clearPad (goes (ups t z link a low) (place t z link a low also) (place t z link a low x)) (padAt t a))
       ≡ dropTickets (λ n. eqName n also || atOrUnder t x n) t
   unfolding goes
   removed-under also x p q =
@@ -94,7 +92,7 @@ module _ (t : Tables) (z : Sized t) (link : Linked t) (a : ℕ) (low : a < 4) wh
 
   -- ---- the head of n's chain and all under it
   pub removed-head : (n : Name) → Here t z link a low n
-      → withPad (clearPad (goes (ups t z link a low) (endFrom 64 (ups t z link a low) (place t z link a low n)) (endFrom 64 (ups t z link a low) (place t z link a low n))) (padAt t a))
+      → withPad t a (clearPad (goes (ups t z link a low) (endFrom 64 (ups t z link a low) (place t z link a low n)) (endFrom 64 (ups t z link a low) (place t z link a low n))) (padAt t a))
       ≡ dropTickets (atOrUnder t (chainHead t n)) t
   unfolding goes
   removed-head n h =
@@ -104,30 +102,38 @@ module _ (t : Tables) (z : Sized t) (link : Linked t) (a : ℕ) (low : a < 4) wh
       (λ m g. far t z link a low 64 m g (chainHead t n) (ends-missed t z link a low 64 n (h .pad))))
 
 -- ---- the same, of what the code has written and found
-module _ (t : Tables) (z : Sized t) (link : Linked t) (a : ℕ) (low : a < 4) (numbers up : List ℕ) (e : numbers ≡ numbersOf (padAt t a))
-    (f : up ≡ upsOf numbers (padAt t a)) where
+module _ (t : Tables) (a : ℕ) (p : Pad) (on : OnPad t a p) (numbers up : List ℕ) (e : numbers ≡ numbersOf p) (f : up ≡ upsOf numbers p) where
+  z : Sized t
+  z = on .sized
+
+  link : Linked t
+  link = on .linked
+
+  low : a < 4
+  low = on .low
+
+  numbered : numbers ≡ numbersOf (padAt t a)
+  numbered = e ∙ ap numbersOf (sym (on .here))
+
   written : up ≡ ups t z link a low
-  written = f ∙ ap (λ (l : List ℕ). upsOf l (padAt t a)) e
+  written = f ∙ λ m. upsOf (numbered m) (sym (on .here) m)
 
   found : (n : Name) (i : ℕ) → i ≡ placeIn numbers (n .program) (n .number) → i ≡ place t z link a low n
-  found n i g = g ∙ ap (λ (l : List ℕ). placeIn l (n .program) (n .number)) e
+  found n i g = g ∙ ap (λ (l : List ℕ). placeIn l (n .program) (n .number)) numbered
 
   pub under-removed : (also x : Name) → also .pad ≡ a → x .pad ≡ a → (i j : ℕ) → i ≡ placeIn numbers (also .program) (also .number)
-      → j ≡ placeIn numbers (x .program) (x .number) → (r : Pad) → r ≡ clearPad (goes up i j) (padAt t a)
-      → withPad t z link a low r ≡ dropTickets (λ n. eqName n also || atOrUnder t x n) t
-  under-removed also x p q i j g h r k =
-      ap (withPad t z link a low) (k ∙ λ m. clearPad (goes (written m) (found also i g m) (found x j h m)) (padAt t a))
-      ∙ removed-under t z link a low also x p q
+      → j ≡ placeIn numbers (x .program) (x .number) → (r : Pad) → r ≡ clearPad (goes up i j) p
+      → withPad t a r ≡ dropTickets (λ n. eqName n also || atOrUnder t x n) t
+  under-removed also x b c i j g h r k =
+      ap (withPad t a) (k ∙ λ m. clearPad (goes (written m) (found also i g m) (found x j h m)) (sym (on .here) m))
+      ∙ removed-under t z link a low also x b c
 
-  pub found-low : (n : Name) → n .pad ≡ a → isLive (lookup t n .kind) ≡ true → (i : ℕ) → i ≡ placeIn numbers (n .program) (n .number) → i < length up
-  found-low n p l i g =
-      let b : place t z link a low n < 64 = place-low t z link a low n (record { pad = p; live = l }) in
-      omega (arith, b, found n i g, ap length written, ups-64 t z link a low)
+  pub found-low : (n : Name) → n .pad ≡ a → isLive (lookup t n .kind) ≡ true → (i : ℕ) → i ≡ placeIn numbers (n .program) (n .number) → i < 64
+  found-low n b l i g = omega (arith, place-low t z link a low n (record { pad = b; live = l }), found n i g)
 
   pub head-removed : (n : Name) → n .pad ≡ a → isLive (lookup t n .kind) ≡ true → (i : ℕ) → i ≡ placeIn numbers (n .program) (n .number)
-      → (j : ℕ) → j ≡ endFrom 64 up i → (r : Pad) → r ≡ clearPad (goes up j j) (padAt t a)
-      → withPad t z link a low r ≡ dropTickets (atOrUnder t (chainHead t n)) t
-  head-removed n p l i g j h r k =
+      → (j : ℕ) → j ≡ endFrom 64 up i → (r : Pad) → r ≡ clearPad (goes up j j) p → withPad t a r ≡ dropTickets (atOrUnder t (chainHead t n)) t
+  head-removed n b l i g j h r k =
       let head : j ≡ endFrom 64 (ups t z link a low) (place t z link a low n) = h ∙ λ m. endFrom 64 (written m) (found n i g m) in
-      ap (withPad t z link a low) (k ∙ λ m. clearPad (goes (written m) (head m) (head m)) (padAt t a))
-      ∙ removed-head t z link a low n (record { pad = p; live = l })
+      ap (withPad t a) (k ∙ λ m. clearPad (goes (written m) (head m) (head m)) (sym (on .here) m))
+      ∙ removed-head t z link a low n (record { pad = b; live = l })

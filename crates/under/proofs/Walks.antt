@@ -9,21 +9,22 @@ use lib.Dec.{eqb, ltb}
 use lib.ListN.{length, getD, List·getD-map}
 use borrow.Author.Tests.{eqb-true, ne-eqb, lt-ltb, le-ltb}
 use Rattle.lists.proofs.Tests.{Case, pass, fail, case}
-use Rattle.chains.specs.Walk.{parentAt, hasParent, endFrom, leadsTo}
+use Rattle.lists.proofs.Reading.{any-default}
 use Rattle.tables.specs.declared.{Name.Name, Kind.Kind, Ticket.Ticket, Tables.Tables}
 use Rattle.tables.specs.declared.Kind.the-variants.{Free, Taken, Received, Child, Recall}
-use Rattle.tables.specs.Kinds.{isLive}
 use Rattle.tables.specs.Names.{eqName, noName, isNone, free, noProgram}
 use Rattle.tables.specs.Lookup.{Sized, padAt, ticketsOf, lookup}
 use Rattle.tables.specs.Chains.{parentBy, parentOf, reaches, endOf}
 use Rattle.tables.proofs.NameLaws.{eqName-false}
+use Rattle.chains.specs.Walk.{parentAt, hasParent, endFrom, leadsTo}
 use Rattle.pads.proofs.Laws.{other-pad}
-use Rattle.under.specs.Places.{numbersOf, placeIn, upBy, upOf, upsIn, upsOf}
+use Rattle.pad_places.specs.Places.{numbersOf, placeIn, upBy, upOf, upsIn, upsOf}
+use Rattle.pad_places.proofs.Places.{place-none}
+use Rattle.pad_places.proofs.Rows.{spread-at}
+use Rattle.pad_places.proofs.PadRows.{PadSized, up-rows, ups-long}
 use Rattle.under.specs.Linked.{Linked}
-use Rattle.under.proofs.Steps.{place-none}
-use Rattle.under.proofs.Rows.{getD-any, spread-at}
-use Rattle.under.proofs.PadRows.{PadSized, up-rows, ups-long}
 use Rattle.under.proofs.Names.{sized, at, index, at-test, found-on, LiveAt, live-at}
+use Rattle.tables.specs.Kinds.{isLive}
 
 -- ---- Bools
 walk-step : (a a′ b b′ u v : Bool) → a ≡ a′ → b ≡ b′ → (b′ ≡ true → u ≡ v) → (a || (b && u)) ≡ (a′ || (b′ && v))
@@ -88,7 +89,7 @@ module _ (t : Tables) (z : Sized t) (link : Linked t) (a : ℕ) (low : a < 4) wh
       let w : LiveAt t z a low n = here-at n h in
       let s : PadSized (padAt t a) = sized t z a low in
       let none : ℕ = upOf (numbersOf (padAt t a)) b free in
-      getD-any ups (place n) 0 none (omega (arith, place-low n h, ups-64))
+      any-default ups (place n) 0 none (omega (arith, place-low n h, ups-64))
       ∙ ap (λ (j : ℕ). getD ups j none) (w .here)
       ∙ spread-at (upsIn (numbersOf (padAt t a))) noProgram (padAt t a .programs) (up-rows (padAt t a) s (numbersOf (padAt t a))) b
       (omega (arith, w .program, s .programs)) i none (w .below)

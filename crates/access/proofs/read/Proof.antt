@@ -1,71 +1,198 @@
+use Prim.Native.Nat.{ℕ, _+_}
 use native.Mathlib.Omega.{arith}
-use Prim.Native.Nat.{ℕ}
-use mathlib.Core.Path.{sym, ap, _∙_}
+use mathlib.Core.Path.{refl, sym, ap, _∙_}
 use mathlib.Core.List.{List}
+use borrow.Author.Needs.{needs}
+use Rattle.tables.specs.declared.{Ticket.Ticket, Tables.Tables}
+use Rattle.tables.specs.Lookup.{padAt}
+use Rattle.tables.proofs.Fits.{tables-fit, tables-sized}
 use Rattle.machine.specs.declared.Served.{Served}
+use Rattle.machine.specs.State.{sheetAt}
 use Rattle.machine.specs.Operation.{reading}
+use Rattle.under.specs.Linked.{OnPad}
 use Rattle.request.proofs.Laws.{sender-possible}
 use Rattle.request.proofs.Numbers.{op-read}
+use Rattle.refusals.proofs.AccessTests.{live-at, sheet-low}
 use Rattle.served.specs.Outcomes.{outcomeOf, answered}
-use Rattle.served.proofs.Laws.{served-done, served-lost, served-refused}
-use Rattle.access.proofs.Steps.{live-at, sheet-low, own-read, after-read}
-use Rattle.machine.specs.State.{sheetAt}
-use borrow.Author.Needs.{needs}
+use Rattle.served.proofs.Laws.{served-done, served-lost, served-refused, asked-in, lost-pad}
+use Rattle.access.proofs.Steps.{own-read, after-read}
 use Rattle.access.proofs.read.Statement.{statement}
 use Rattle.access.proofs.read.Tie as tie
-use Rattle.access.proofs.decide.Reads as decide-reads
-use Rattle.served.proofs.answer.Reads as answer-reads
-use Rattle.served.proofs.lost.Reads as lost-reads
-use Rattle.store.proofs.read_sheet.Reads as read-sheet-reads
 
--- src/lib.rt:75:9
-decide-requires : tie.Need-decide-requires
-decide-requires c κs = (omega (arith, sender-possible (c .before .before .args .r) ((c .before .before .pre .1 .1) .early) .pad), omega (arith, sender-possible (c .before .before .args .r) ((c .before .before .pre .1 .1) .early) .program))
+cast-a : tie.Need-cast-a
+cast-a c = search needs
 
--- src/lib.rt:78:9
-lost-requires : tie.Need-lost-requires
-lost-requires c κs = (c .before .before .before .before .pre .1 .0 .linked, live-at _ (c .before .before .before .before .args .t) (c .before .before .before .before .args .r) 12 ((sym (c .before .decide .ensures .0)) ∙ c .if1 .taken) (λ z. omega (arith, z)))
+mul-p : tie.Need-mul-p
+mul-p c = search needs
 
--- src/lib.rt:78:9
-returns : tie.Need-returns
-returns c = ap (λ (d : Served). outcomeOf d (c .before .before .before .before .before .args .store .now) (c .before .before .before .before .before .args .sheet .now)) (c .lost .ensures) ∙ served-lost (c .before .before .before .before .before .args .t) (c .before .before .before .before .before .args .store .now) (c .before .before .before .before .before .args .sheet .now) (c .before .before .before .before .before .args .r) ((c .before .before .before .before .before .pre .1 .1) .early) reading (op-read (c .before .before .before .before .before .args .r .op) ((c .before .before .before .before .before .pre .1 .1) .number)) (own-read (c .before .before .before .before .before .args .t) (c .before .before .before .before .before .args .r) 12 ((sym (c .before .before .decide .ensures .0)) ∙ c .before .if1 .taken))
+element-copy-out-p : tie.Need-element-copy-out-p
+element-copy-out-p c =
+    omega (arith, (sender-possible (c .before .before .before .args .r) (c .before .before .before .pre .1 .1 .early)) .pad)
 
--- src/lib.rt:81:9
+cast-q : tie.Need-cast-q
+cast-q c = search needs
+
+mul-q : tie.Need-mul-q
+mul-q c = search needs
+
+element-copy-out-q : tie.Need-element-copy-out-q
+element-copy-out-q c =
+    let c5 = c .before .before .before .before .before in
+    omega (arith, (sender-possible (c5 .args .r) (c5 .pre .1 .1 .early)) .program)
+
+find-requires : tie.Need-find-requires
+find-requires c κs = search needs
+
+entry-in-requires : tie.Need-entry-in-requires
+entry-in-requires c κs = search needs
+
+access-requires : tie.Need-access-requires
+access-requires c κs = search needs
+
+asked-name-requires : tie.Need-asked-name-requires
+asked-name-requires c κs = search needs
+
+drop-head-requires : tie.Need-drop-head-requires
+drop-head-requires c κs = search needs
+
+mul-left : tie.Need-mul-left
+mul-left c =
+    let c14 = c .before .before .before .before .before .before .before .before .before .before .before .before .before .before in
+    omega (arith, (sender-possible (c14 .args .r) (c14 .pre .1 .1 .early)) .pad)
+
+element-set-from-left : tie.Need-element-set-from-left
+element-set-from-left c =
+    let c14 = c .before .before .before .before .before .before .before .before .before .before .before .before .before .before in
+    omega (arith, (sender-possible (c14 .args .r) (c14 .pre .1 .1 .early)) .pad)
+
 answer-requires : tie.Need-answer-requires
 answer-requires c κs = search needs
 
--- src/lib.rt:81:9
-returns-2 : tie.Need-returns-2
-returns-2 c = ap (λ (d : Served). outcomeOf d (c .before .before .before .before .before .before .args .store .now) (c .before .before .before .before .before .before .args .sheet .now)) (c .answer .ensures) ∙ served-refused (c .before .before .before .before .before .before .args .t) (c .before .before .before .before .before .before .args .store .now) (c .before .before .before .before .before .before .args .sheet .now) (c .before .before .before .before .before .before .args .r) ((c .before .before .before .before .before .before .pre .1 .1) .early) reading (op-read (c .before .before .before .before .before .before .args .r .op) ((c .before .before .before .before .before .before .pre .1 .1) .number)) _ (own-read (c .before .before .before .before .before .before .args .t) (c .before .before .before .before .before .before .args .r) _ (sym (c .before .before .before .decide .ensures .0))) (c .before .if2 .taken) (c .before .before .if1 .left)
+returns : tie.Need-returns
+returns c =
+    let c1 = c .before in
+    let c2 = c1 .before in
+    let c3 = c2 .before in
+    let c4 = c3 .before in
+    let c5 = c4 .before in
+    let c8 = c5 .before .before .before in
+    let c15 = c8 .before .before .before .before .before .before .before in
+    let t = c15 .args .t in
+    let r = c15 .args .r in
+    let store = c15 .args .store .now in
+    let sheet = c15 .args .sheet .now in
+    let k = asked-in t r ∙ sym (c8 .find .ensures) in
+    let said = sym (c4 .access .ensures t r k (sym (c5 .entry-in .ensures)) refl) in
+    let early = c15 .pre .1 .1 .early in
+    let asks = op-read (r .op) (c15 .pre .1 .1 .number) in
+    let on : OnPad t (r .pad) (padAt t (r .pad)) = record {
+      sized = tables-sized t (tables-fit t (_, c15 .good .0));
+      linked = c15 .pre .1 .0 .linked;
+      low = omega (arith, sender-possible r early .pad);
+      here = refl;
+    } in
+    let live = live-at 1 t r 12 (said ∙ c3 .if1 .taken) (λ z. omega (arith, z)) in
+    let lost = lost-pad t r _ (c1 .drop-head .result) (c2 .asked-name .result) (c2 .asked-name .ensures) on live (c1 .drop-head .ensures) in
+    ap (λ (d : Served). outcomeOf d store sheet) (c .answer .ensures) ∙ ap (λ (u : Tables). outcomeOf (answered u 12) store sheet) lost
+    ∙ served-lost t store sheet r early reading asks (own-read t r 12 (said ∙ c3 .if1 .taken))
 
--- src/lib.rt:83:5
-read-sheet-requires : tie.Need-read-sheet-requires
-read-sheet-requires c κs = (c .before .before .before .before .before .before .pre .0 .0, (omega (arith, c .before .before .before .decide .ensures .1, sheet-low _ (c .before .before .before .before .before .before .args .t) (c .before .before .before .before .before .before .args .r) ((sym (c .before .before .before .decide .ensures .0)) ∙ c .before .if2 .left)), c .before .before .before .before .before .before .pre .0 .1))
-
--- src/lib.rt:84:5
 answer-requires-2 : tie.Need-answer-requires-2
 answer-requires-2 c κs = search needs
 
--- src/lib.rt:71:1
+returns-2 : tie.Need-returns-2
+returns-2 c =
+    let c3 = c .before .before .before in
+    let c4 = c3 .before in
+    let c7 = c4 .before .before .before in
+    let c14 = c7 .before .before .before .before .before .before .before in
+    let t = c14 .args .t in
+    let r = c14 .args .r in
+    let store = c14 .args .store .now in
+    let sheet = c14 .args .sheet .now in
+    let k = asked-in t r ∙ sym (c7 .find .ensures) in
+    let said = sym (c3 .access .ensures t r k (sym (c4 .entry-in .ensures)) refl) in
+    let early = c14 .pre .1 .1 .early in
+    let asks = op-read (r .op) (c14 .pre .1 .1 .number) in
+    ap (λ (d : Served). outcomeOf d store sheet) (c .answer2 .ensures) ∙ served-refused t store sheet r early reading asks _
+    (own-read t r _ said) (c .before .if2 .taken) (c .before .before .if1 .left)
+
+cast-read-sheet : tie.Need-cast-read-sheet
+cast-read-sheet c = search needs
+
+cast-read-sheet-2 : tie.Need-cast-read-sheet-2
+cast-read-sheet-2 c = search needs
+
+add-read-sheet : tie.Need-add-read-sheet
+add-read-sheet c = search needs
+
+read-sheet-requires : tie.Need-read-sheet-requires
+read-sheet-requires c κs =
+    let c3 = c .before .before .before in
+    let c5 = c3 .before .before in
+    let c6 = c5 .before in
+    let c9 = c6 .before .before .before in
+    let c16 = c9 .before .before .before .before .before .before .before in
+    let k = asked-in (c16 .args .t) (c16 .args .r) ∙ sym (c9 .find .ensures) in
+    let said = sym (c5 .access .ensures (c16 .args .t) (c16 .args .r) k (sym (c6 .entry-in .ensures)) refl) in (
+      c16 .pre .0 .0,
+      (
+        omega (arith, ap (λ (x : Ticket). x .first + c16 .args .r .first) (sym k), sheet-low 1 (c16 .args .t) (c16 .args .r) (said ∙ c3 .if2 .left)),
+        c16 .pre .0 .1,
+      ),
+    )
+
+answer-requires-3 : tie.Need-answer-requires-3
+answer-requires-3 c κs = search needs
+
 same-length : tie.Need-same-length
 same-length c = search needs
 
--- src/lib.rt:71:1
 returns-3 : tie.Need-returns-3
-returns-3 c = ap (λ (d : Served). outcomeOf d (c .before .before .before .before .before .before .before .before .before .before .args .store .now) (c .before .before .before .read-sheet .last .1 .1 .0)) (c .answer2 .ensures)
-    ∙ ap (λ (bytes : List ℕ). outcomeOf (answered (c .before .before .before .before .before .before .before .before .before .before .args .t) 0) (c .before .before .before .before .before .before .before .before .before .before .args .store .now) bytes) (c .before .before .before .read-sheet .ensures ∙ ap (λ (n : ℕ). sheetAt n (c .before .before .before .before .before .before .before .before .before .before .args .store .now)) (c .before .before .before .before .before .before .before .decide .ensures .1))
-    ∙ after-read (c .before .before .before .before .before .before .before .before .before .before .args .t) (c .before .before .before .before .before .before .before .before .before .before .args .store .now) (c .before .before .before .before .before .before .before .before .before .before .args .sheet .now) (c .before .before .before .before .before .before .before .before .before .before .args .r) ∙ served-done (c .before .before .before .before .before .before .before .before .before .before .args .t) (c .before .before .before .before .before .before .before .before .before .before .args .store .now) (c .before .before .before .before .before .before .before .before .before .before .args .sheet .now) (c .before .before .before .before .before .before .before .before .before .before .args .r) ((c .before .before .before .before .before .before .before .before .before .before .pre .1 .1) .early) reading (op-read (c .before .before .before .before .before .before .before .before .before .before .args .r .op) ((c .before .before .before .before .before .before .before .before .before .before .pre .1 .1) .number)) (own-read (c .before .before .before .before .before .before .before .before .before .before .args .t) (c .before .before .before .before .before .before .before .before .before .before .args .r) 0 ((sym (c .before .before .before .before .before .before .before .decide .ensures .0)) ∙ c .before .before .before .before .before .if2 .left))
+returns-3 c =
+    let c3 = c .before .before .before in
+    let c7 = c3 .before .before .before .before in
+    let c9 = c7 .before .before in
+    let c10 = c9 .before in
+    let c13 = c10 .before .before .before in
+    let c20 = c13 .before .before .before .before .before .before .before in
+    let t = c20 .args .t in
+    let r = c20 .args .r in
+    let store = c20 .args .store .now in
+    let sheet = c20 .args .sheet .now in
+    let k = asked-in t r ∙ sym (c13 .find .ensures) in
+    let said = sym (c9 .access .ensures t r k (sym (c10 .entry-in .ensures)) refl) in
+    let early = c20 .pre .1 .1 .early in
+    let asks = op-read (r .op) (c20 .pre .1 .1 .number) in
+    ap (λ (d : Served). outcomeOf d store (c3 .read-sheet .last .1 .1 .0)) (c .answer3 .ensures) ∙ ap
+    (λ (bytes : List ℕ). outcomeOf (answered t 0) store bytes)
+    (c3 .read-sheet .ensures ∙ ap (λ (x : Ticket). sheetAt (x .first + r .first) store) (sym k)) ∙ after-read t store sheet r ∙
+    served-done t store sheet r early reading asks (own-read t r 0 (said ∙ c7 .if2 .left))
 
 pub read-spec : {M : Type 1} → statement M
 read-spec =
     tie.close
     (tie.spec
-    decide-requires
-    lost-requires
-    returns
+    cast-a
+    mul-p
+    element-copy-out-p
+    cast-q
+    mul-q
+    element-copy-out-q
+    find-requires
+    entry-in-requires
+    access-requires
+    asked-name-requires
+    drop-head-requires
+    mul-left
+    element-set-from-left
     answer-requires
-    returns-2
-    read-sheet-requires
+    returns
     answer-requires-2
+    returns-2
+    cast-read-sheet
+    cast-read-sheet-2
+    add-read-sheet
+    read-sheet-requires
+    answer-requires-3
     same-length
     returns-3)

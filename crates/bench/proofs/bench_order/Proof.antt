@@ -12,59 +12,45 @@ Inv-loop full n t accepted₀ i₀ accepted i = ((i ≤ n) × (accepted ≤ i))
 abbrev μ-loop : tie.MeasureT-loop
 μ-loop full n t accepted₀ i₀ accepted i = n - i
 
--- src/lib.rt:145:31
 slice-aggregate-empty : tie.Need-slice-aggregate-empty Inv-loop μ-loop
 slice-aggregate-empty c = search needs
 
--- src/lib.rt:145:9
 empty-requires : tie.Need-empty-requires Inv-loop μ-loop
 empty-requires c κs = search needs
 
--- src/lib.rt:148:20
 slice-aggregate-filled : tie.Need-slice-aggregate-filled Inv-loop μ-loop
 slice-aggregate-filled c = search needs
 
--- src/lib.rt:148:32
 slice-aggregate-filled-2 : tie.Need-slice-aggregate-filled-2 Inv-loop μ-loop
 slice-aggregate-filled-2 c = search needs
 
--- src/lib.rt:148:9
 filled-requires : tie.Need-filled-requires Inv-loop μ-loop
 filled-requires c κs = search needs
 
--- src/lib.rt:152:5
 loop-holds : tie.Need-loop-holds Inv-loop μ-loop
 loop-holds c = search needs
 
--- src/lib.rt:153:13
 add-i : tie.Need-add-i Inv-loop μ-loop
 add-i c = search needs
 
--- src/lib.rt:154:12
 in-order-requires : tie.Need-in-order-requires Inv-loop μ-loop
 in-order-requires c κs = search needs
 
--- src/lib.rt:155:24
 add-accepted : tie.Need-add-accepted Inv-loop μ-loop
 add-accepted c = search needs
 
--- src/lib.rt:152:5
 loop-less : tie.Need-loop-less Inv-loop μ-loop
 loop-less c = search needs
 
--- src/lib.rt:152:5
 loop-again : tie.Need-loop-again Inv-loop μ-loop
 loop-again c = search needs
 
--- src/lib.rt:152:5
 loop-less-2 : tie.Need-loop-less-2 Inv-loop μ-loop
 loop-less-2 c = search needs
 
--- src/lib.rt:152:5
 loop-again-2 : tie.Need-loop-again-2 Inv-loop μ-loop
 loop-again-2 c = search needs
 
--- src/lib.rt:141:1
 returns : tie.Need-returns Inv-loop μ-loop
 returns c = search needs
 

@@ -66,27 +66,45 @@ contains-requires c κs = search needs
 
 returns-7 : tie.Need-returns-7
 returns-7 c =
-    let a = c .before .before .before .before .before .before .before .before .before .before .before .before .before .args in
-    let sheet = c .before .before .before .before .before .before .before .before .before .before .before .before .if1 .left in
-    let low = c .before .before .before .before .before .before .before .before .before .before .before .if2 .left in
-    let high = c .before .before .before .before .before .before .before .before .before .before .if3 .left in
-    let live = not-false (a .e .live) (c .before .before .before .before .before .before .before .before .if4 .left) in
-    let from = c .before .before .before .before .before .if5 .left in
-    let to = c .before .before .before .before .if6 .left in
-    let asked = ap (λ (x : Rights). within x (a .e .rights)) (sym (c .before .before .make .ensures)) ∙ sym (c .before .contains .ensures) in
-    λ t n q. no-right (a .sheet) (a .right) (a .e) t n q sheet low high live from to (asked ∙ not-true (c .before .contains .result) (c .if7 .taken))
+    let c1 = c .before in
+    let c4 = c1 .before .before .before in
+    let c5 = c4 .before in
+    let c8 = c5 .before .before .before in
+    let c10 = c8 .before .before in
+    let c11 = c10 .before in
+    let c12 = c11 .before in
+    let c13 = c12 .before in
+    let a = c13 .args in
+    let sheet = c12 .if1 .left in
+    let low = c11 .if2 .left in
+    let high = c10 .if3 .left in
+    let live = not-false (a .e .live) (c8 .if4 .left) in
+    let from = c5 .if5 .left in
+    let to = c4 .if6 .left in
+    let asked = ap (λ (x : Rights). within x (a .e .rights)) (sym (c .before .before .make .ensures)) ∙ sym (c1 .contains .ensures) in
+    λ t n q. no-right (a .sheet) (a .right) (a .e) t n q sheet low high live from to
+    (asked ∙ not-true (c1 .contains .result) (c .if7 .taken))
 
 returns-8 : tie.Need-returns-8
 returns-8 c =
-    let a = c .before .before .before .before .before .before .before .before .before .before .before .before .before .args in
-    let sheet = c .before .before .before .before .before .before .before .before .before .before .before .before .if1 .left in
-    let low = c .before .before .before .before .before .before .before .before .before .before .before .if2 .left in
-    let high = c .before .before .before .before .before .before .before .before .before .before .if3 .left in
-    let live = not-false (a .e .live) (c .before .before .before .before .before .before .before .before .if4 .left) in
-    let from = c .before .before .before .before .before .if5 .left in
-    let to = c .before .before .before .before .if6 .left in
-    let asked = ap (λ (x : Rights). within x (a .e .rights)) (sym (c .before .before .make .ensures)) ∙ sym (c .before .contains .ensures) in
-    λ t n q. all-well (a .sheet) (a .right) (a .e) t n q sheet low high live from to (asked ∙ not-false (c .before .contains .result) (c .if7 .left))
+    let c1 = c .before in
+    let c4 = c1 .before .before .before in
+    let c5 = c4 .before in
+    let c8 = c5 .before .before .before in
+    let c10 = c8 .before .before in
+    let c11 = c10 .before in
+    let c12 = c11 .before in
+    let c13 = c12 .before in
+    let a = c13 .args in
+    let sheet = c12 .if1 .left in
+    let low = c11 .if2 .left in
+    let high = c10 .if3 .left in
+    let live = not-false (a .e .live) (c8 .if4 .left) in
+    let from = c5 .if5 .left in
+    let to = c4 .if6 .left in
+    let asked = ap (λ (x : Rights). within x (a .e .rights)) (sym (c .before .before .make .ensures)) ∙ sym (c1 .contains .ensures) in
+    λ t n q. all-well (a .sheet) (a .right) (a .e) t n q sheet low high live from to
+    (asked ∙ not-false (c1 .contains .result) (c .if7 .left))
 
 pub check-spec : {M : Type 1} → statement M
 check-spec =

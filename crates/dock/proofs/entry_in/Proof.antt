@@ -31,11 +31,13 @@ is-named-requires c κs = search needs
 
 returns : tie.Need-returns Inv-loop μ-loop
 returns c =
-    let s = c .before .before .before .before .before in
-    let l = c .before .before .before .before .loop in
-    let long = s .good .0 .1 .0 .1 in
+    let c4 = c .before .before .before .before in
+    let c5 = c4 .before in
+    let l = c4 .loop in
+    let long = c5 .good .0 .1 .0 .1 in
     let is = sym (c .before .is-named .ensures) ∙ c .if1 .taken in
-    found-here (s .args .t1) (s .args .n) (l .i) (first-hit (isNamed (s .args .n)) (s .args .t1) _ (l .i) (omega (arith, long)) is (l .inv .1))
+    found-here (c5 .args .t1) (c5 .args .n) (l .i)
+    (first-hit (isNamed (c5 .args .n)) (c5 .args .t1) _ (l .i) (omega (arith, long)) is (l .inv .1))
 
 add-i : tie.Need-add-i Inv-loop μ-loop
 add-i c = search needs
@@ -56,10 +58,11 @@ none-requires c κs = search needs
 
 returns-2 : tie.Need-returns-2 Inv-loop μ-loop
 returns-2 c =
-    let s = c .before .before .before in
+    let c3 = c .before .before .before in
     let l = c .before .before .loop in
-    let long = s .good .0 .1 .0 .1 in
-    c .none .ensures ∙ found-nowhere (s .args .t1) (s .args .n) (l .i) (first-end (isNamed (s .args .n)) (s .args .t1) (l .i) (omega (arith, long)) (l .inv .1)) (omega (arith, long))
+    let long = c3 .good .0 .1 .0 .1 in
+    c .none .ensures ∙ found-nowhere (c3 .args .t1) (c3 .args .n) (l .i)
+    (first-end (isNamed (c3 .args .n)) (c3 .args .t1) (l .i) (omega (arith, long)) (l .inv .1)) (omega (arith, long))
 
 pub entry-in-spec : {M : Type 1} → statement M
 entry-in-spec =

@@ -7,25 +7,22 @@ use Rattle.entry_notes.proofs.note_of.Reads as reads
 use Rattle.entry_notes.proofs.note_of.Lts as lts
 use Rattle.index.proofs.place_of.Reads as place-of-reads
 
--- src/lib.rt:50:9
 place-of-requires : tie.Need-place-of-requires
 place-of-requires c κs = search needs
 
--- src/lib.rt:52:9
 returns : tie.Need-returns
 returns c = note-none _ _ _ _ (c .before .place-of .ensures) (omega (arith, c .if1 .taken, c .before .before .before .before .pre .1))
 
--- src/lib.rt:54:5
 mul-result : tie.Need-mul-result
 mul-result c = search needs
 
--- src/lib.rt:54:5
 shared-slice-read-result : tie.Need-shared-slice-read-result
 shared-slice-read-result c = search needs
 
--- src/lib.rt:46:1
 returns-2 : tie.Need-returns-2
-returns-2 c = note-here _ _ _ _ (c .before .before .place-of .ensures) (omega (arith, c .before .if1 .left, c .before .before .before .before .before .pre .1))
+returns-2 c =
+    let c5 = c .before .before .before .before .before in
+    note-here _ _ _ _ (c .before .before .place-of .ensures) (omega (arith, c .before .if1 .left, c5 .pre .1))
 
 pub note-of-spec : {M : Type 1} → statement M
 note-of-spec =

@@ -4,11 +4,9 @@ use Rattle.entry_order.proofs.is_hung.Tie as tie
 use Rattle.entry_order.proofs.is_hung.Reads as reads
 use Rattle.entry_order.proofs.is_hung.Lts as lts
 
--- src/lib.rt:61:9
 returns : tie.Need-returns
 returns c = rw (not-true (c .before .before .args .e .live) (c .if1 .taken))
 
--- src/lib.rt:57:1
 returns-2 : tie.Need-returns-2
 returns-2 c = rw (not-false (c .before .before .before .before .args .e .live) (c .before .before .if1 .left))
 

@@ -1,21 +1,18 @@
 use Prim.Native.Nat.{ℕ, _-_, _≤_}
-use mathlib.Core.Path.{_≡_, refl, sym, _∙_}
 use native.Mathlib.Omega.{arith}
+use mathlib.Core.Path.{_≡_, refl, sym, _∙_}
+use mathlib.Core.List.{map, List}
+use mathlib.Core.Bool.{true, false}
+use lib.ListN.{length, getD, drop, length-set, length-map}
 use borrow.Author.Needs.{needs}
-use lib.ListN.{length, getD}
-use mathlib.Core.List.{map}
-use lib.ListN.{drop}
+use borrow.Author.Tests.{not-true, not-false}
 use Rattle.lists.specs.Lists.{all}
 use Rattle.lists.proofs.Loops.{all-end, all-pass, all-fail}
 use Rattle.lists.proofs.Front.{front, front-none, front-end}
-use Rattle.entry_order.specs.Parents.{hasParent, upOf}
-use Rattle.entry_order.proofs.Linking.{free-fits, free-up, hung-fits, hung-lost, hung-up, written, linked, not-linked}
-use mathlib.Core.Bool.{true, false}
-use mathlib.Core.List.{List}
-use lib.ListN.{length-set, length-map}
-use borrow.Author.Tests.{not-true, not-false}
 use Rattle.tables.specs.declared.Entry.{Entry}
 use Rattle.tables.specs.Names.{noEntry}
+use Rattle.entry_order.specs.Parents.{hasParent, upOf}
+use Rattle.entry_order.proofs.Linking.{free-fits, free-up, hung-fits, hung-lost, hung-up, written, linked, not-linked}
 use Rattle.entry_order.proofs.link_entries.Statement.{statement}
 use Rattle.entry_order.proofs.link_entries.Tie as tie
 use Rattle.entry_order.proofs.link_entries.Reads as reads
@@ -25,7 +22,10 @@ use Rattle.entry_notes.proofs.note_of.Reads as note-of-reads
 use Rattle.rules.proofs.parent_entry_ok.Reads as parent-entry-ok-reads
 
 abbrev Inv-loop : tie.InvT-loop
-Inv-loop numbers notes up₀ es i₀ up i = (i ≤ 256) × ((length up ≡ length up₀) × ((all (hasParent numbers notes es) es ≡ all (hasParent numbers notes es) (drop i es)) × (up ≡ front i (map (upOf numbers notes) es) up₀)))
+Inv-loop numbers notes up₀ es i₀ up i =
+    (i ≤ 256)
+    × ((length up ≡ length up₀)
+    × ((all (hasParent numbers notes es) es ≡ all (hasParent numbers notes es) (drop i es)) × (up ≡ front i (map (upOf numbers notes) es) up₀)))
 
 abbrev μ-loop : tie.MeasureT-loop
 μ-loop numbers notes up₀ es i₀ up i = 256 - i
@@ -42,101 +42,145 @@ ups s = map (upOf (s .args .numbers .now) (s .args .notes .now)) (s .args .t1)
 mapped : (s : tie.Start Inv-loop μ-loop) → length (ups s) ≡ 256
 mapped s = length-map (s .args .t1) _ ∙ long s
 
--- src/lib.rt:73:5
 loop-holds : tie.Need-loop-holds Inv-loop μ-loop
 loop-holds c = (omega arith, (refl, (refl, front-none _ _)))
 
--- src/lib.rt:74:17
 mul-e : tie.Need-mul-e Inv-loop μ-loop
 mul-e c = search needs
 
--- src/lib.rt:74:17
 array-copy-out-e : tie.Need-array-copy-out-e Inv-loop μ-loop
 array-copy-out-e c = search needs
 
--- src/lib.rt:76:13
 add-i : tie.Need-add-i Inv-loop μ-loop
 add-i c = search needs
 
--- src/lib.rt:77:12
 is-hung-requires : tie.Need-is-hung-requires Inv-loop μ-loop
 is-hung-requires c κs = search needs
 
--- src/lib.rt:79:17
 note-of-requires : tie.Need-note-of-requires Inv-loop μ-loop
 note-of-requires c κs = search needs
 
--- src/lib.rt:81:17
 same-length : tie.Need-same-length Inv-loop μ-loop
 same-length c = c .before .before .before .before .before .before .before .loop .inv .1 .0
 
--- src/lib.rt:81:17
 returns : tie.Need-returns Inv-loop μ-loop
-returns c = not-linked _ _ _ _ (all-fail _ _ noEntry (c .before .before .before .before .before .before .before .loop .i) (omega (arith, long (c .before .before .before .before .before .before .before .before .before .before .before), c .before .before .before .before .before .before .loop-test .taken)) (hung-lost _ _ _ (entry-at (c .before .before .before .before .before .before .before .before .before .before .before) (c .before .before .before .before .before .before .before .loop .i)) (sym (c .before .before .before .before .is-hung .ensures) ∙ c .before .before .before .if1 .taken) _ (c .before .note-of .ensures) (omega (arith, long (c .before .before .before .before .before .before .before .before .before .before .before), c .if2 .taken))) (c .before .before .before .before .before .before .before .loop .inv .1 .1 .0))
+returns c =
+    let c3 = c .before .before .before in
+    let c4 = c3 .before in
+    let c6 = c4 .before .before in
+    let c7 = c6 .before in
+    let c11 = c7 .before .before .before .before in
+    not-linked _ _ _ _
+    (all-fail _ _ noEntry (c7 .loop .i) (omega (arith, long c11, c6 .loop-test .taken))
+    (hung-lost _ _ _ (entry-at c11 (c7 .loop .i)) (sym (c4 .is-hung .ensures) ∙ c3 .if1 .taken) _ (c .before .note-of .ensures)
+    (omega (arith, long c11, c .if2 .taken))) (c7 .loop .inv .1 .1 .0))
 
--- src/lib.rt:83:29
 cast-parent : tie.Need-cast-parent Inv-loop μ-loop
 cast-parent c = search needs
 
--- src/lib.rt:83:26
 mul-parent : tie.Need-mul-parent Inv-loop μ-loop
 mul-parent c = search needs
 
--- src/lib.rt:83:26
 array-copy-out-parent : tie.Need-array-copy-out-parent Inv-loop μ-loop
 array-copy-out-parent c = search needs
 
--- src/lib.rt:84:17
 parent-entry-ok-requires : tie.Need-parent-entry-ok-requires Inv-loop μ-loop
 parent-entry-ok-requires c κs = search needs
 
--- src/lib.rt:85:17
 same-length-2 : tie.Need-same-length-2 Inv-loop μ-loop
 same-length-2 c = c .before .before .before .before .before .before .before .before .before .before .loop .inv .1 .0
 
--- src/lib.rt:85:17
 returns-2 : tie.Need-returns-2 Inv-loop μ-loop
-returns-2 c = not-linked _ _ _ _ (all-fail _ _ noEntry (c .before .before .before .before .before .before .before .before .before .before .loop .i) (omega (arith, long (c .before .before .before .before .before .before .before .before .before .before .before .before .before .before), c .before .before .before .before .before .before .before .before .before .loop-test .taken)) (hung-fits _ _ _ (entry-at (c .before .before .before .before .before .before .before .before .before .before .before .before .before .before) (c .before .before .before .before .before .before .before .before .before .before .loop .i)) (sym (c .before .before .before .before .before .before .before .is-hung .ensures) ∙ c .before .before .before .before .before .before .if1 .taken) _ (c .before .before .before .before .note-of .ensures) false (sym (not-true _ (c .if3 .taken)) ∙ c .before .parent-entry-ok .ensures)) (c .before .before .before .before .before .before .before .before .before .before .loop .inv .1 .1 .0))
+returns-2 c =
+    let c4 = c .before .before .before .before in
+    let c6 = c4 .before .before in
+    let c7 = c6 .before in
+    let c9 = c7 .before .before in
+    let c10 = c9 .before in
+    let c14 = c10 .before .before .before .before in
+    not-linked _ _ _ _
+    (all-fail _ _ noEntry (c10 .loop .i) (omega (arith, long c14, c9 .loop-test .taken))
+    (hung-fits _ _ _ (entry-at c14 (c10 .loop .i)) (sym (c7 .is-hung .ensures) ∙ c6 .if1 .taken) _ (c4 .note-of .ensures) false
+    (sym (not-true _ (c .if3 .taken)) ∙ c .before .parent-entry-ok .ensures)) (c10 .loop .inv .1 .1 .0))
 
--- src/lib.rt:87:13
 mul-up : tie.Need-mul-up Inv-loop μ-loop
 mul-up c = search needs
 
--- src/lib.rt:87:13
 slice-write-up : tie.Need-slice-write-up Inv-loop μ-loop
-slice-write-up c = omega (arith, c .before .before .before .before .before .before .before .before .before .before .loop .inv .1 .0, c .before .before .before .before .before .before .before .before .before .before .before .before .before .before .pre .1 .1, c .before .before .before .before .before .before .before .before .before .loop-test .taken)
+slice-write-up c =
+    let c9 = c .before .before .before .before .before .before .before .before .before in
+    let c10 = c9 .before in
+    let c14 = c10 .before .before .before .before in
+    omega (arith, c10 .loop .inv .1 .0, c14 .pre .1 .1, c9 .loop-test .taken)
 
--- src/lib.rt:73:5
 loop-less : tie.Need-loop-less Inv-loop μ-loop
 loop-less c = omega (arith, c .before .before .before .before .before .before .before .before .before .loop-test .taken)
 
--- src/lib.rt:73:5
 loop-again : tie.Need-loop-again Inv-loop μ-loop
-loop-again c = (omega (arith, c .before .before .before .before .before .before .before .before .before .loop-test .taken), (length-set (c .before .before .before .before .before .before .before .before .before .before .loop .up) _ _ ∙ c .before .before .before .before .before .before .before .before .before .before .loop .inv .1 .0, (all-pass _ _ noEntry (c .before .before .before .before .before .before .before .before .before .before .loop .i) (omega (arith, long (c .before .before .before .before .before .before .before .before .before .before .before .before .before .before), c .before .before .before .before .before .before .before .before .before .loop-test .taken)) (hung-fits _ _ _ (entry-at (c .before .before .before .before .before .before .before .before .before .before .before .before .before .before) (c .before .before .before .before .before .before .before .before .before .before .loop .i)) (sym (c .before .before .before .before .before .before .before .is-hung .ensures) ∙ c .before .before .before .before .before .before .if1 .taken) _ (c .before .before .before .before .note-of .ensures) true (sym (not-false _ (c .if3 .left)) ∙ c .before .parent-entry-ok .ensures)) (c .before .before .before .before .before .before .before .before .before .before .loop .inv .1 .1 .0), written (c .before .before .before .before .before .before .before .before .before .before .before .before .before .before .args .numbers .now) (c .before .before .before .before .before .before .before .before .before .before .before .before .before .before .args .notes .now) (c .before .before .before .before .before .before .before .before .before .before .before .before .before .before .args .t1) _ _ (c .before .before .before .before .before .before .before .before .before .before .loop .i) _ (omega (arith, long (c .before .before .before .before .before .before .before .before .before .before .before .before .before .before), c .before .before .before .before .before .before .before .before .before .loop-test .taken)) (hung-up _ _ (c .before .before .before .before .before .before .before .before .before .before .before .before .before .before .args .t1) (entry-at (c .before .before .before .before .before .before .before .before .before .before .before .before .before .before) (c .before .before .before .before .before .before .before .before .before .before .loop .i)) (sym (c .before .before .before .before .before .before .before .is-hung .ensures) ∙ c .before .before .before .before .before .before .if1 .taken) _ (c .before .before .before .before .note-of .ensures)) (c .before .before .before .before .before .before .before .before .before .before .loop .inv .1 .1 .1))))
+loop-again c =
+    let c4 = c .before .before .before .before in
+    let c6 = c4 .before .before in
+    let c7 = c6 .before in
+    let c9 = c7 .before .before in
+    let c10 = c9 .before in
+    let c14 = c10 .before .before .before .before in (
+      omega (arith, c9 .loop-test .taken),
+      (
+        length-set (c10 .loop .up) _ _ ∙ c10 .loop .inv .1 .0,
+        (
+          all-pass _ _ noEntry (c10 .loop .i) (omega (arith, long c14, c9 .loop-test .taken))
+              (hung-fits _ _ _ (entry-at c14 (c10 .loop .i)) (sym (c7 .is-hung .ensures) ∙ c6 .if1 .taken) _ (c4 .note-of .ensures) true
+              (sym (not-false _ (c .if3 .left)) ∙ c .before .parent-entry-ok .ensures)) (c10 .loop .inv .1 .1 .0),
+          written (c14 .args .numbers .now)
+              (c14 .args .notes .now) (c14 .args .t1) _ _ (c10 .loop .i) _ (omega (arith, long c14, c9 .loop-test .taken))
+              (hung-up _ _ (c14 .args .t1) (entry-at c14 (c10 .loop .i)) (sym (c7 .is-hung .ensures) ∙ c6 .if1 .taken) _ (c4 .note-of .ensures))
+              (c10 .loop .inv .1 .1 .1),
+        ),
+      ),
+    )
 
--- src/lib.rt:89:13
 mul-up-2 : tie.Need-mul-up-2 Inv-loop μ-loop
 mul-up-2 c = search needs
 
--- src/lib.rt:89:13
 slice-write-up-2 : tie.Need-slice-write-up-2 Inv-loop μ-loop
-slice-write-up-2 c = omega (arith, c .before .before .before .before .loop .inv .1 .0, c .before .before .before .before .before .before .before .before .pre .1 .1, c .before .before .before .loop-test .taken)
+slice-write-up-2 c =
+    let c3 = c .before .before .before in
+    let c4 = c3 .before in
+    let c8 = c4 .before .before .before .before in
+    omega (arith, c4 .loop .inv .1 .0, c8 .pre .1 .1, c3 .loop-test .taken)
 
--- src/lib.rt:73:5
 loop-less-2 : tie.Need-loop-less-2 Inv-loop μ-loop
 loop-less-2 c = omega (arith, c .before .before .before .loop-test .taken)
 
--- src/lib.rt:73:5
 loop-again-2 : tie.Need-loop-again-2 Inv-loop μ-loop
-loop-again-2 c = (omega (arith, c .before .before .before .loop-test .taken), (length-set (c .before .before .before .before .loop .up) _ _ ∙ c .before .before .before .before .loop .inv .1 .0, (all-pass _ _ noEntry (c .before .before .before .before .loop .i) (omega (arith, long (c .before .before .before .before .before .before .before .before), c .before .before .before .loop-test .taken)) (free-fits _ _ _ (entry-at (c .before .before .before .before .before .before .before .before) (c .before .before .before .before .loop .i)) (sym (c .before .is-hung .ensures) ∙ c .if1 .left)) (c .before .before .before .before .loop .inv .1 .1 .0), written (c .before .before .before .before .before .before .before .before .args .numbers .now) (c .before .before .before .before .before .before .before .before .args .notes .now) (c .before .before .before .before .before .before .before .before .args .t1) _ _ (c .before .before .before .before .loop .i) _ (omega (arith, long (c .before .before .before .before .before .before .before .before), c .before .before .before .loop-test .taken)) (free-up _ _ (c .before .before .before .before .before .before .before .before .args .t1) (entry-at (c .before .before .before .before .before .before .before .before) (c .before .before .before .before .loop .i)) (sym (c .before .is-hung .ensures) ∙ c .if1 .left)) (c .before .before .before .before .loop .inv .1 .1 .1))))
+loop-again-2 c =
+    let c1 = c .before in
+    let c3 = c1 .before .before in
+    let c4 = c3 .before in
+    let c8 = c4 .before .before .before .before in (
+      omega (arith, c3 .loop-test .taken),
+      (
+        length-set (c4 .loop .up) _ _ ∙ c4 .loop .inv .1 .0,
+        (
+          all-pass _ _ noEntry (c4 .loop .i) (omega (arith, long c8, c3 .loop-test .taken))
+              (free-fits _ _ _ (entry-at c8 (c4 .loop .i)) (sym (c1 .is-hung .ensures) ∙ c .if1 .left)) (c4 .loop .inv .1 .1 .0),
+          written
+              (c8 .args .numbers .now) (c8 .args .notes .now) (c8 .args .t1) _ _ (c4 .loop .i) _ (omega (arith, long c8, c3 .loop-test .taken))
+              (free-up _ _ (c8 .args .t1) (entry-at c8 (c4 .loop .i)) (sym (c1 .is-hung .ensures) ∙ c .if1 .left)) (c4 .loop .inv .1 .1 .1),
+        ),
+      ),
+    )
 
--- src/lib.rt:68:1
 same-length-3 : tie.Need-same-length-3 Inv-loop μ-loop
 same-length-3 c = c .before .loop .inv .1 .0
 
--- src/lib.rt:68:1
 returns-3 : tie.Need-returns-3 Inv-loop μ-loop
-returns-3 c = linked _ _ _ _ (all-end _ _ (c .before .loop .i) (omega (arith, long (c .before .before .before .before .before), c .loop-test .left)) (c .before .loop .inv .1 .1 .0)) (c .before .loop .inv .1 .1 .1 ∙ front-end (c .before .loop .i) (ups (c .before .before .before .before .before)) _ (omega (arith, mapped (c .before .before .before .before .before), c .loop-test .left)) (c .before .before .before .before .before .pre .1 .1 ∙ sym (mapped (c .before .before .before .before .before))))
+returns-3 c =
+    let c1 = c .before in
+    let c5 = c1 .before .before .before .before in
+    linked _ _ _ _ (all-end _ _ (c1 .loop .i) (omega (arith, long c5, c .loop-test .left)) (c1 .loop .inv .1 .1 .0))
+    (c1 .loop .inv .1 .1 .1 ∙ front-end (c1 .loop .i) (ups c5) _ (omega (arith, mapped c5, c .loop-test .left))
+    (c5 .pre .1 .1 ∙ sym (mapped c5)))
 
 pub link-entries-spec : {M : Type 1} → statement M
 link-entries-spec =

@@ -1,15 +1,15 @@
 use Prim.Native.Nat.{ℕ, _-_, _≤_, _<_}
-use mathlib.Core.Path.{_≡_, sym, _∙_}
 use native.Mathlib.Omega.{arith}
-use borrow.Author.Needs.{needs}
-use lib.ListN.{length, getD}
+use mathlib.Core.Path.{_≡_, sym, _∙_}
 use mathlib.Core.Bool.{true}
+use lib.ListN.{length, getD}
+use borrow.Author.Needs.{needs}
 use borrow.Author.Count.{below-none, below-more}
-use Rattle.tables.specs.Names.{free}
-use Rattle.entry_order.specs.Order.{hasNote, takenNoted}
 use Rattle.lists.proofs.Everywhere.{allAt-intro}
 use Rattle.lists.proofs.Loops.{allAt-broken}
+use Rattle.tables.specs.Names.{free}
 use Rattle.index.proofs.Laying.{flat-long}
+use Rattle.entry_order.specs.Order.{hasNote, takenNoted}
 use Rattle.entry_order.proofs.TakenSteps.{not-taken, taken-noted, taken-lost}
 use Rattle.entry_order.proofs.taken_ok.Statement.{statement}
 use Rattle.entry_order.proofs.taken_ok.Tie as tie
@@ -26,59 +26,66 @@ abbrev μ-loop : tie.MeasureT-loop
 long : (s : tie.Start Inv-loop μ-loop) → length (s .args .t1 .tickets) ≡ 256
 long s = flat-long (s .args .t1) (_, s .good .0)
 
--- src/lib.rt:161:5
 loop-holds : tie.Need-loop-holds Inv-loop μ-loop
 loop-holds c = (omega arith, below-none _)
 
--- src/lib.rt:162:17
 mul-k : tie.Need-mul-k Inv-loop μ-loop
 mul-k c = search needs
 
--- src/lib.rt:162:17
 element-copy-out-k : tie.Need-element-copy-out-k Inv-loop μ-loop
 element-copy-out-k c = search needs
 
--- src/lib.rt:164:13
 add-i : tie.Need-add-i Inv-loop μ-loop
 add-i c = search needs
 
--- src/lib.rt:166:12
 is-taken-requires : tie.Need-is-taken-requires Inv-loop μ-loop
 is-taken-requires c κs = search needs
 
--- src/lib.rt:167:23
 mul-if2 : tie.Need-mul-if2 Inv-loop μ-loop
 mul-if2 c = search needs
 
--- src/lib.rt:167:23
 shared-slice-read-if2 : tie.Need-shared-slice-read-if2 Inv-loop μ-loop
 shared-slice-read-if2 c = search needs
 
--- src/lib.rt:168:17
 returns : tie.Need-returns Inv-loop μ-loop
 unfolding takenNoted
-returns c = allAt-broken free _ _ (c .before .before .before .before .before .before .loop .i) (omega (arith, long (c .before .before .before .before .before .before .before .before), c .before .before .before .before .before .loop-test .taken)) (taken-lost _ _ _ (sym (c .before .before .before .is-taken .ensures) ∙ c .before .before .if1 .taken) (omega (arith, c .before .before .before .before .before .before .before .before .pre, c .before .before .before .before .before .loop-test .taken)) (omega (arith, c .if2 .taken)))
+returns c =
+    let c3 = c .before .before .before in
+    let c5 = c3 .before .before in
+    let c6 = c5 .before in
+    let c8 = c6 .before .before in
+    allAt-broken free _ _ (c6 .loop .i) (omega (arith, long c8, c5 .loop-test .taken))
+    (taken-lost _ _ _ (sym (c3 .is-taken .ensures) ∙ c .before .before .if1 .taken) (omega (arith, c8 .pre, c5 .loop-test .taken))
+    (omega (arith, c .if2 .taken)))
 
--- src/lib.rt:161:5
 loop-less : tie.Need-loop-less Inv-loop μ-loop
 loop-less c = search needs
 
--- src/lib.rt:161:5
 loop-again : tie.Need-loop-again Inv-loop μ-loop
-loop-again c = (omega arith, below-more _ _ (c .before .before .before .before .before .before .loop .inv .1) (taken-noted _ _ _ (sym (c .before .before .before .is-taken .ensures) ∙ c .before .before .if1 .taken) (omega (arith, c .before .before .before .before .before .before .before .before .pre, c .before .before .before .before .before .loop-test .taken)) (omega (arith, c .if2 .left))))
+loop-again c =
+    let c3 = c .before .before .before in
+    let c5 = c3 .before .before in
+    let c6 = c5 .before in
+    let c8 = c6 .before .before in (
+      omega arith,
+      below-more _ _ (c6 .loop .inv .1)
+          (taken-noted _ _ _ (sym (c3 .is-taken .ensures) ∙ c .before .before .if1 .taken) (omega (arith, c8 .pre, c5 .loop-test .taken))
+          (omega (arith, c .if2 .left))),
+    )
 
--- src/lib.rt:161:5
 loop-less-2 : tie.Need-loop-less-2 Inv-loop μ-loop
 loop-less-2 c = search needs
 
--- src/lib.rt:161:5
 loop-again-2 : tie.Need-loop-again-2 Inv-loop μ-loop
-loop-again-2 c = (omega arith, below-more _ _ (c .before .before .before .before .loop .inv .1) (not-taken _ _ _ (sym (c .before .is-taken .ensures) ∙ c .if1 .left)))
+loop-again-2 c =
+    let c4 = c .before .before .before .before in
+    (omega arith, below-more _ _ (c4 .loop .inv .1) (not-taken _ _ _ (sym (c .before .is-taken .ensures) ∙ c .if1 .left)))
 
--- src/lib.rt:156:1
 returns-2 : tie.Need-returns-2 Inv-loop μ-loop
 unfolding takenNoted
-returns-2 c = sym (allAt-intro free _ _ (λ j b. c .before .loop .inv .1 j (omega (arith, long (c .before .before .before), c .loop-test .left, b))))
+returns-2 c =
+    let c3 = c .before .before .before in
+    sym (allAt-intro free _ _ (λ j b. c .before .loop .inv .1 j (omega (arith, long c3, c .loop-test .left, b))))
 
 pub taken-ok-spec : {M : Type 1} → statement M
 taken-ok-spec =

@@ -1,6 +1,6 @@
 use Prim.Native.Nat.{ℕ, _+_, _-_, _*_, _/_, _%_, _≤_}
-use mathlib.Core.Path.{sym, _∙_}
 use native.Mathlib.Omega.{arith}
+use mathlib.Core.Path.{sym, _∙_}
 use borrow.Author.Needs.{needs}
 use Rattle.lists.proofs.Laid.{Laid, laid-none, laid-to, one-more}
 use Rattle.tables.specs.declared.Tables.{Tables}
@@ -37,146 +37,170 @@ Inv-loop t f₀ a₀ f a = (a ≤ 4) × (Laid free 256 (placed t) (64 * a) (f .t
 abbrev μ-loop : tie.MeasureT-loop
 μ-loop t f₀ a₀ f a = 4 - a
 
--- src/lib.rt:20:9
 free-requires : tie.Need-free-requires Inv-loop3 μ-loop3 Inv-loop2 μ-loop2 Inv-loop μ-loop
 free-requires c κs = search needs
 
--- src/lib.rt:26:5
 loop-holds : tie.Need-loop-holds Inv-loop3 μ-loop3 Inv-loop2 μ-loop2 Inv-loop μ-loop
-loop-holds c = (omega arith, (laid-to free 256 (placed (c .before .args .t1)) 0 _ _ (omega arith) (laid-none free 256 (placed (c .before .args .t1)) (c .free .result)), laid-to 0 32 (lasts (c .before .args .t1)) 0 _ _ (omega arith) (laid-none 0 32 (lasts (c .before .args .t1)) 0)))
+loop-holds c =
+    let c1 = c .before in (
+      omega arith,
+      (
+        laid-to free 256 (placed (c1 .args .t1)) 0 _ _ (omega arith) (laid-none free 256 (placed (c1 .args .t1)) (c .free .result)),
+        laid-to 0
+            32 (lasts (c1 .args .t1)) 0 _ _ (omega arith) (laid-none 0 32 (lasts (c1 .args .t1)) 0),
+      ),
+    )
 
--- src/lib.rt:27:17
 mul-p : tie.Need-mul-p Inv-loop3 μ-loop3 Inv-loop2 μ-loop2 Inv-loop μ-loop
 mul-p c = search needs
 
--- src/lib.rt:27:17
 element-copy-out-p :
     tie.Need-element-copy-out-p Inv-loop3 μ-loop3 Inv-loop2 μ-loop2 Inv-loop μ-loop
 element-copy-out-p c = search needs
 
--- src/lib.rt:29:9
 loop2-holds : tie.Need-loop2-holds Inv-loop3 μ-loop3 Inv-loop2 μ-loop2 Inv-loop μ-loop
-loop2-holds c = (omega arith, (laid-to free 256 (placed (c .before .before .before .before .args .t1)) (64 * c .before .before .loop .a) _ _ (omega arith) (c .before .before .loop .inv .1 .0), laid-to 0 32 (lasts (c .before .before .before .before .args .t1)) (8 * c .before .before .loop .a) _ _ (omega arith) (c .before .before .loop .inv .1 .1)))
+loop2-holds c =
+    let c2 = c .before .before in
+    let c4 = c2 .before .before in (
+      omega arith,
+      (
+        laid-to free 256 (placed (c4 .args .t1)) (64 * c2 .loop .a) _ _ (omega arith) (c2 .loop .inv .1 .0),
+        laid-to 0 32
+            (lasts (c4 .args .t1)) (8 * c2 .loop .a) _ _ (omega arith) (c2 .loop .inv .1 .1),
+      ),
+    )
 
--- src/lib.rt:30:21
 mul-q : tie.Need-mul-q Inv-loop3 μ-loop3 Inv-loop2 μ-loop2 Inv-loop μ-loop
 mul-q c = search needs
 
--- src/lib.rt:30:21
 element-copy-out-q :
     tie.Need-element-copy-out-q Inv-loop3 μ-loop3 Inv-loop2 μ-loop2 Inv-loop μ-loop
 element-copy-out-q c = search needs
 
--- src/lib.rt:31:21
 mul-f : tie.Need-mul-f Inv-loop3 μ-loop3 Inv-loop2 μ-loop2 Inv-loop μ-loop
 mul-f c = search needs
 
--- src/lib.rt:31:21
 add-f : tie.Need-add-f Inv-loop3 μ-loop3 Inv-loop2 μ-loop2 Inv-loop μ-loop
 add-f c = search needs
 
--- src/lib.rt:31:13
 mul-f-2 : tie.Need-mul-f-2 Inv-loop3 μ-loop3 Inv-loop2 μ-loop2 Inv-loop μ-loop
 mul-f-2 c = search needs
 
--- src/lib.rt:31:13
 element-write-f : tie.Need-element-write-f Inv-loop3 μ-loop3 Inv-loop2 μ-loop2 Inv-loop μ-loop
 element-write-f c = omega (arith, c .before .before .loop2 .inv .1 .1 .long)
 
--- src/lib.rt:33:13
 loop3-holds : tie.Need-loop3-holds Inv-loop3 μ-loop3 Inv-loop2 μ-loop2 Inv-loop μ-loop
-loop3-holds c = (
-  omega arith,
-  (
-    laid-to free 256 (placed (c .before .before .before .before .before .before .before .args .t1)) (64 * c .before .before .before .before .before .loop .a + 8 * c .before .before .loop2 .b) _ _ (omega arith) (c .before .before .loop2 .inv .1 .0),
-    one-more 0 32 (lasts (c .before .before .before .before .before .before .before .args .t1)) (8 * c .before .before .before .before .before .loop .a + c .before .before .loop2 .b) _ _ (c .before .before .loop2 .inv .1 .1) (omega arith) (at-last (c .before .before .before .before .before .before .before .args .t1) (c .before .before .before .before .before .loop .a) (c .before .before .loop2 .b) (omega arith)),
-  ),
-)
+loop3-holds c =
+    let c2 = c .before .before in
+    let c5 = c2 .before .before .before in
+    let c7 = c5 .before .before in (
+      omega arith,
+      (
+        laid-to free 256 (placed (c7 .args .t1)) (64 * c5 .loop .a + 8 * c2 .loop2 .b) _ _ (omega arith) (c2 .loop2 .inv .1 .0),
+        one-more 0 32
+            (lasts (c7 .args .t1)) (8 * c5 .loop .a + c2 .loop2 .b) _ _ (c2 .loop2 .inv .1 .1) (omega arith)
+            (at-last (c7 .args .t1) (c5 .loop .a) (c2 .loop2 .b) (omega arith)),
+      ),
+    )
 
--- src/lib.rt:34:25
 mul-k : tie.Need-mul-k Inv-loop3 μ-loop3 Inv-loop2 μ-loop2 Inv-loop μ-loop
 mul-k c = search needs
 
--- src/lib.rt:34:25
 element-copy-out-k :
     tie.Need-element-copy-out-k Inv-loop3 μ-loop3 Inv-loop2 μ-loop2 Inv-loop μ-loop
 element-copy-out-k c = search needs
 
--- src/lib.rt:35:27
 mul-k-2 : tie.Need-mul-k-2 Inv-loop3 μ-loop3 Inv-loop2 μ-loop2 Inv-loop μ-loop
 mul-k-2 c = search needs
 
--- src/lib.rt:35:36
 mul-k-3 : tie.Need-mul-k-3 Inv-loop3 μ-loop3 Inv-loop2 μ-loop2 Inv-loop μ-loop
 mul-k-3 c = search needs
 
--- src/lib.rt:35:27
 add-k : tie.Need-add-k Inv-loop3 μ-loop3 Inv-loop2 μ-loop2 Inv-loop μ-loop
 add-k c = search needs
 
--- src/lib.rt:35:27
 add-k-2 : tie.Need-add-k-2 Inv-loop3 μ-loop3 Inv-loop2 μ-loop2 Inv-loop μ-loop
 add-k-2 c = search needs
 
--- src/lib.rt:35:17
 mul-k-4 : tie.Need-mul-k-4 Inv-loop3 μ-loop3 Inv-loop2 μ-loop2 Inv-loop μ-loop
 mul-k-4 c = search needs
 
--- src/lib.rt:35:17
 element-set-from-k :
     tie.Need-element-set-from-k Inv-loop3 μ-loop3 Inv-loop2 μ-loop2 Inv-loop μ-loop
 element-set-from-k c = search needs
 
--- src/lib.rt:36:21
 add-i : tie.Need-add-i Inv-loop3 μ-loop3 Inv-loop2 μ-loop2 Inv-loop μ-loop
 add-i c = search needs
 
--- src/lib.rt:33:13
 loop3-less : tie.Need-loop3-less Inv-loop3 μ-loop3 Inv-loop2 μ-loop2 Inv-loop μ-loop
 loop3-less c = search needs
 
--- src/lib.rt:33:13
 loop3-again : tie.Need-loop3-again Inv-loop3 μ-loop3 Inv-loop2 μ-loop2 Inv-loop μ-loop
-loop3-again c = let n : ℕ = 64 * c .before .before .before .before .before .before .before .before .loop .a + 8 * c .before .before .before .before .before .loop2 .b + c .before .before .loop3 .i in (
-  omega arith,
-  (
-    laid-to free 256 (placed (c .before .before .before .before .before .before .before .before .before .before .args .t1)) (n + 1) _ _ (omega arith) (one-more free 256 (placed (c .before .before .before .before .before .before .before .before .before .before .args .t1)) n _ _ (c .before .before .loop3 .inv .1 .0) (omega arith) (at-place (c .before .before .before .before .before .before .before .before .before .before .args .t1) (c .before .before .before .before .before .before .before .before .loop .a) (c .before .before .before .before .before .loop2 .b) (c .before .before .loop3 .i) (omega arith) (omega arith))),
-    c .before .before .loop3 .inv .1 .1,
-  ),
-)
+loop3-again c =
+    let c2 = c .before .before in
+    let c5 = c2 .before .before .before in
+    let c8 = c5 .before .before .before in
+    let c10 = c8 .before .before in
+    let n : ℕ = 64 * c8 .loop .a + 8 * c5 .loop2 .b + c2 .loop3 .i in (
+      omega arith,
+      (
+        laid-to free 256 (placed (c10 .args .t1)) (n + 1) _ _ (omega arith)
+            (one-more free 256 (placed (c10 .args .t1)) n _ _ (c2 .loop3 .inv .1 .0) (omega arith)
+            (at-place (c10 .args .t1) (c8 .loop .a) (c5 .loop2 .b) (c2 .loop3 .i) (omega arith) (omega arith))),
+        c2 .loop3 .inv .1 .1,
+      ),
+    )
 
--- src/lib.rt:38:17
 add-b : tie.Need-add-b Inv-loop3 μ-loop3 Inv-loop2 μ-loop2 Inv-loop μ-loop
 add-b c = search needs
 
--- src/lib.rt:29:9
 loop2-less : tie.Need-loop2-less Inv-loop3 μ-loop3 Inv-loop2 μ-loop2 Inv-loop μ-loop
 loop2-less c = search needs
 
--- src/lib.rt:29:9
 loop2-again : tie.Need-loop2-again Inv-loop3 μ-loop3 Inv-loop2 μ-loop2 Inv-loop μ-loop
-loop2-again c = (omega arith, (laid-to free 256 (placed (c .before .before .before .before .before .before .before .before .before .args .t1)) (64 * c .before .before .before .before .before .before .before .loop .a + 8 * c .before .before .before .before .loop2 .b + c .before .loop3 .i) _ _ (omega arith) (c .before .loop3 .inv .1 .0), laid-to 0 32 (lasts (c .before .before .before .before .before .before .before .before .before .args .t1)) (8 * c .before .before .before .before .before .before .before .loop .a + c .before .before .before .before .loop2 .b + 1) _ _ (omega arith) (c .before .loop3 .inv .1 .1)))
+loop2-again c =
+    let c1 = c .before in
+    let c4 = c1 .before .before .before in
+    let c7 = c4 .before .before .before in
+    let c9 = c7 .before .before in (
+      omega arith,
+      (
+        laid-to free 256 (placed (c9 .args .t1)) (64 * c7 .loop .a + 8 * c4 .loop2 .b + c1 .loop3 .i) _ _ (omega arith)
+            (c1 .loop3 .inv .1 .0),
+        laid-to 0 32 (lasts (c9 .args .t1)) (8 * c7 .loop .a + c4 .loop2 .b + 1) _ _ (omega arith)
+            (c1 .loop3 .inv .1 .1),
+      ),
+    )
 
--- src/lib.rt:40:13
 add-a : tie.Need-add-a Inv-loop3 μ-loop3 Inv-loop2 μ-loop2 Inv-loop μ-loop
 add-a c = search needs
 
--- src/lib.rt:26:5
 loop-less : tie.Need-loop-less Inv-loop3 μ-loop3 Inv-loop2 μ-loop2 Inv-loop μ-loop
 loop-less c = search needs
 
--- src/lib.rt:26:5
 loop-again : tie.Need-loop-again Inv-loop3 μ-loop3 Inv-loop2 μ-loop2 Inv-loop μ-loop
-loop-again c = (omega arith, (laid-to free 256 (placed (c .before .before .before .before .before .before .args .t1)) (64 * c .before .before .before .before .loop .a + 8 * c .before .loop2 .b) _ _ (omega arith) (c .before .loop2 .inv .1 .0), laid-to 0 32 (lasts (c .before .before .before .before .before .before .args .t1)) (8 * c .before .before .before .before .loop .a + c .before .loop2 .b) _ _ (omega arith) (c .before .loop2 .inv .1 .1)))
+loop-again c =
+    let c1 = c .before in
+    let c4 = c1 .before .before .before in
+    let c6 = c4 .before .before in (
+      omega arith,
+      (
+        laid-to free 256 (placed (c6 .args .t1)) (64 * c4 .loop .a + 8 * c1 .loop2 .b) _ _ (omega arith) (c1 .loop2 .inv .1 .0),
+        laid-to 0 32
+            (lasts (c6 .args .t1)) (8 * c4 .loop .a + c1 .loop2 .b) _ _ (omega arith) (c1 .loop2 .inv .1 .1),
+      ),
+    )
 
--- src/lib.rt:17:1
 returns : tie.Need-returns Inv-loop3 μ-loop3 Inv-loop2 μ-loop2 Inv-loop μ-loop
-returns c = record {
-  long = c .before .loop .inv .1 .0 .long;
-  same = λ p h. c .before .loop .inv .1 .0 .same p (omega arith);
-  lastsLong = c .before .loop .inv .1 .1 .long;
-  last = λ a b g h. c .before .loop .inv .1 .1 .same (8 * a + b) (omega arith) ∙ sym (at-last (c .before .before .before .args .t1) a b h);
-}
+returns c =
+    let c1 = c .before in
+    let c3 = c1 .before .before in
+    record {
+      long = c1 .loop .inv .1 .0 .long;
+      same = λ p h. c1 .loop .inv .1 .0 .same p (omega arith);
+      lastsLong = c1 .loop .inv .1 .1 .long;
+      last = λ a b g h. c1 .loop .inv .1 .1 .same (8 * a + b) (omega arith) ∙ sym (at-last (c3 .args .t1) a b h);
+    }
 
 pub flatten-spec : {M : Type 1} → statement M
 flatten-spec =

@@ -8,16 +8,13 @@ use Rattle.index.proofs.number_of.Reads as reads
 use Rattle.index.proofs.number_of.Lts as lts
 use Rattle.tables.proofs.Kind.is_live.Reads as is-live-reads
 
--- src/lib.rt:44:8
 is-live-requires : tie.Need-is-live-requires
 is-live-requires c κs = search needs
 
--- src/lib.rt:45:9
 returns : tie.Need-returns
 unfolding numberOf
 returns c = rw (sym (c .before .is-live .ensures) ∙ c .if1 .taken)
 
--- src/lib.rt:40:1
 returns-2 : tie.Need-returns-2
 unfolding numberOf
 returns-2 c = rw (sym (c .before .is-live .ensures) ∙ c .if1 .left)

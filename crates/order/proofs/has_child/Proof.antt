@@ -2,9 +2,9 @@
 use mathlib.Core.Path.{ap, _∙_}
 use borrow.Author.Needs.{needs}
 use Rattle.tables.specs.declared.Ticket.{Ticket}
-use Rattle.tables.specs.Kinds.{isChild}
 use Rattle.order.proofs.has_child.Statement.{statement}
 use Rattle.order.proofs.has_child.Tie as tie
+use Rattle.tables.specs.Kinds.{isChild}
 use Rattle.pads.proofs.find.Reads as find-reads
 use Rattle.tables.proofs.Kind.is_child.Reads as is-child-reads
 

@@ -12,8 +12,8 @@ use Rattle.entry_order.proofs.entries_ok.Reads as entries-ok-reads
 use Rattle.index.proofs.flatten.Reads as flatten-reads
 use Rattle.index.proofs.write_numbers.Reads as write-numbers-reads
 use Rattle.recall_order.proofs.recalls_ok.Reads as recalls-ok-reads
-use Rattle.ticket_order.proofs.chains_ok.Reads as chains-ok-reads
-use Rattle.ticket_order.proofs.programs_ok.Reads as programs-ok-reads
+use Rattle.child_order.proofs.chains_ok.Reads as chains-ok-reads
+use Rattle.program_order.proofs.programs_ok.Reads as programs-ok-reads
 
 programs-ok-requires : tie.Need-programs-ok-requires
 programs-ok-requires c κs = search needs
@@ -78,16 +78,22 @@ recalls-ok-requires c κs = search needs
 
 returns-4 : tie.Need-returns-4
 returns-4 c =
-    let w = c .before .before .before .before .before .before .before .before .before .before .before .before .before in
-    let f = w .before .before in
-    let s = f .before .before .before in
-    let z = tables-sized (s .args .t) (tables-fit (s .args .t) (_, s .good .0)) in
-    let p = sym (f .before .before .programs-ok .ensures) ∙ not-false _ (f .before .if1 .left) in
-    let ix = numbered (s .args .t) z (rule-1 (s .args .t) p) _ _ (f .flatten .ensures) _ (w .write-numbers .ensures) in
-    let h = sym (c .before .before .before .before .before .before .before .before .before .before .chains-ok .ensures (s .args .t) (f .flatten .ensures) ix) ∙ not-false _ (c .before .before .before .before .before .before .before .before .before .if2 .left) in
-    let e = c .before .before .before .before .before .entries-ok .ensures (s .args .t) (f .flatten .ensures) refl ix (rule-2 (s .args .t) p) in
-    let y = not-false _ (c .before .before .before .if3 .left) in
-    c .recalls-ok .ensures (s .args .t) (f .flatten .ensures) refl ix (e .noted y) ∙ last-rule (s .args .t) p h (sym (e .same) ∙ y)
+    let c3 = c .before .before .before in
+    let c5 = c3 .before .before in
+    let c9 = c5 .before .before .before .before in
+    let c10 = c9 .before in
+    let c13 = c10 .before .before .before in
+    let c15 = c13 .before .before in
+    let c16 = c15 .before in
+    let c17 = c16 .before in
+    let c18 = c17 .before in
+    let z = tables-sized (c18 .args .t) (tables-fit (c18 .args .t) (_, c18 .good .0)) in
+    let p = sym (c17 .programs-ok .ensures) ∙ not-false _ (c16 .if1 .left) in
+    let ix = numbered (c18 .args .t) z (rule-1 (c18 .args .t) p) _ _ (c15 .flatten .ensures) _ (c13 .write-numbers .ensures) in
+    let h = sym (c10 .chains-ok .ensures (c18 .args .t) (c15 .flatten .ensures) ix) ∙ not-false _ (c9 .if2 .left) in
+    let e = c5 .entries-ok .ensures (c18 .args .t) (c15 .flatten .ensures) refl ix (rule-2 (c18 .args .t) p) in
+    let y = not-false _ (c3 .if3 .left) in
+    c .recalls-ok .ensures (c18 .args .t) (c15 .flatten .ensures) refl ix (e .noted y) ∙ last-rule (c18 .args .t) p h (sym (e .same) ∙ y)
 
 pub in-order-spec : {M : Type 1} → statement M
 in-order-spec =

@@ -23,18 +23,23 @@ returns-2 c =
 
 returns-3 : tie.Need-returns-3
 returns-3 c =
-    let s = c .before .before .before .before .before .before .before in
-    let r = sym (c .before .before .before .before .before .before .is-recall .ensures) ∙ not-false _ (c .before .before .before .before .before .if1 .left) in
-    no-program (s .args .place) (s .args .k) r (c .before .before .if2 .left) (c .if3 .taken)
+    let c5 = c .before .before .before .before .before in
+    let c6 = c5 .before in
+    let c7 = c6 .before in
+    let r = sym (c6 .is-recall .ensures) ∙ not-false _ (c5 .if1 .left) in
+    no-program (c7 .args .place) (c7 .args .k) r (c .before .before .if2 .left) (c .if3 .taken)
 
 cast-result : tie.Need-cast-result
 cast-result c = search needs
 
 returns-4 : tie.Need-returns-4
 returns-4 c =
-    let s = c .before .before .before .before .before .before .before .before in
-    let r = sym (c .before .before .before .before .before .before .before .is-recall .ensures) ∙ not-false _ (c .before .before .before .before .before .before .if1 .left) in
-    by-pad (s .args .place) (s .args .k) r (c .before .before .before .if2 .left) (c .before .if3 .left)
+    let c3 = c .before .before .before in
+    let c6 = c3 .before .before .before in
+    let c7 = c6 .before in
+    let c8 = c7 .before in
+    let r = sym (c7 .is-recall .ensures) ∙ not-false _ (c6 .if1 .left) in
+    by-pad (c8 .args .place) (c8 .args .k) r (c3 .if2 .left) (c .before .if3 .left)
 
 pub is-far-spec : {M : Type 1} → statement M
 is-far-spec =

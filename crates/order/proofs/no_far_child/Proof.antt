@@ -1,9 +1,9 @@
 -- `no_far_child`: so far every place passes. s is the entry, f where the tickets are laid out by place, l the loop's head.
 use Prim.Native.Nat.{ℕ, _-_, _≤_, _<_}
-use mathlib.Core.Path.{sym, _∙_}
 use native.Mathlib.Omega.{arith}
-use borrow.Author.Needs.{needs}
+use mathlib.Core.Path.{sym, _∙_}
 use lib.ListN.{getD}
+use borrow.Author.Needs.{needs}
 use Rattle.lists.proofs.Loops.{so-far}
 use Rattle.tables.specs.Names.{free}
 use Rattle.tables.specs.Lookup.{lookup}
@@ -47,8 +47,11 @@ mul-p c = search needs
 
 element-copy-out-p : tie.Need-element-copy-out-p Inv-loop μ-loop
 element-copy-out-p c =
-    let l = c .before .before .before .before .before .before in
-    far-program (l .loop .i) (getD (l .before .flatten .result .tickets) (l .loop .i) free) (sym (c .before .before .before .is-far .ensures) ∙ c .before .before .if1 .taken) .pad
+    let c3 = c .before .before .before in
+    let c6 = c3 .before .before .before in
+    let c7 = c6 .before in
+    far-program (c6 .loop .i) (getD (c7 .flatten .result .tickets) (c6 .loop .i) free)
+    (sym (c3 .is-far .ensures) ∙ c .before .before .if1 .taken) .pad
 
 cast-q : tie.Need-cast-q Inv-loop μ-loop
 cast-q c = search needs
@@ -58,8 +61,12 @@ mul-q c = search needs
 
 element-copy-out-q : tie.Need-element-copy-out-q Inv-loop μ-loop
 element-copy-out-q c =
-    let l = c .before .before .before .before .before .before .before .before in
-    far-program (l .loop .i) (getD (l .before .flatten .result .tickets) (l .loop .i) free) (sym (c .before .before .before .before .before .is-far .ensures) ∙ c .before .before .before .before .if1 .taken) .program
+    let c4 = c .before .before .before .before in
+    let c5 = c4 .before in
+    let c8 = c5 .before .before .before in
+    let c9 = c8 .before in
+    far-program (c8 .loop .i) (getD (c9 .flatten .result .tickets) (c8 .loop .i) free)
+    (sym (c5 .is-far .ensures) ∙ c4 .if1 .taken) .program
 
 has-child-requires : tie.Need-has-child-requires Inv-loop μ-loop
 has-child-requires c κs = search needs
@@ -67,10 +74,13 @@ has-child-requires c κs = search needs
 returns : tie.Need-returns Inv-loop μ-loop
 unfolding lookup
 returns c =
-    let l = c .before .before .before .before .before .before .before .before .before .before .before in
-    let f = l .before in
-    let s = f .before in
-    far-child (s .args .t1) (tables-sized (s .args .t1) (tables-fit (s .args .t1) (_, s .good .0))) _ _ (f .flatten .ensures) (l .loop .i) (omega arith) (sym (c .before .before .before .before .before .before .before .before .is-far .ensures) ∙ c .before .before .before .before .before .before .before .if1 .taken) (sym (c .before .has-child .ensures) ∙ c .if2 .taken)
+    let c7 = c .before .before .before .before .before .before .before in
+    let c8 = c7 .before in
+    let c11 = c8 .before .before .before in
+    let c12 = c11 .before in
+    let c13 = c12 .before in
+    far-child (c13 .args .t1) (tables-sized (c13 .args .t1) (tables-fit (c13 .args .t1) (_, c13 .good .0))) _ _ (c12 .flatten .ensures)
+    (c11 .loop .i) (omega arith) (sym (c8 .is-far .ensures) ∙ c7 .if1 .taken) (sym (c .before .has-child .ensures) ∙ c .if2 .taken)
 
 loop-less : tie.Need-loop-less Inv-loop μ-loop
 loop-less c = search needs
@@ -78,25 +88,34 @@ loop-less c = search needs
 loop-again : tie.Need-loop-again Inv-loop μ-loop
 unfolding lookup
 loop-again c =
-    let l = c .before .before .before .before .before .before .before .before .before .before .before in
-    let s = l .before .before in
-    (omega arith, so-far (l .loop .i) (l .loop .inv .1) (no-child (s .args .t1) (l .loop .i) (getD (l .before .flatten .result .tickets) (l .loop .i) free) (sym (c .before .has-child .ensures) ∙ c .if2 .left)))
+    let c11 = c .before .before .before .before .before .before .before .before .before .before .before in
+    let c12 = c11 .before in
+    let c13 = c12 .before in (
+      omega arith,
+      so-far (c11 .loop .i) (c11 .loop .inv .1)
+          (no-child (c13 .args .t1) (c11 .loop .i) (getD (c12 .flatten .result .tickets) (c11 .loop .i) free)
+          (sym (c .before .has-child .ensures) ∙ c .if2 .left)),
+    )
 
 loop-less-2 : tie.Need-loop-less-2 Inv-loop μ-loop
 loop-less-2 c = search needs
 
 loop-again-2 : tie.Need-loop-again-2 Inv-loop μ-loop
 loop-again-2 c =
-    let l = c .before .before .before .before in
-    let s = l .before .before in
-    (omega arith, so-far (l .loop .i) (l .loop .inv .1) (not-far (s .args .t1) (tables-sized (s .args .t1) (tables-fit (s .args .t1) (_, s .good .0))) (l .loop .i) (getD (l .before .flatten .result .tickets) (l .loop .i) free) (sym (c .before .is-far .ensures) ∙ c .if1 .left)))
+    let c4 = c .before .before .before .before in
+    let c5 = c4 .before in
+    let c6 = c5 .before in (
+      omega arith,
+      so-far (c4 .loop .i) (c4 .loop .inv .1)
+          (not-far (c6 .args .t1) (tables-sized (c6 .args .t1) (tables-fit (c6 .args .t1) (_, c6 .good .0))) (c4 .loop .i)
+          (getD (c5 .flatten .result .tickets) (c4 .loop .i) free) (sym (c .before .is-far .ensures) ∙ c .if1 .left)),
+    )
 
 returns-2 : tie.Need-returns-2 Inv-loop μ-loop
 returns-2 c =
-    let l = c .before in
-    let f = l .before in
-    let s = f .before in
-    all-pass (s .args .t1) (tables-sized (s .args .t1) (tables-fit (s .args .t1) (_, s .good .0))) _ _ (f .flatten .ensures) (λ j h. l .loop .inv .1 j (omega arith))
+    let c3 = c .before .before .before in
+    all-pass (c3 .args .t1) (tables-sized (c3 .args .t1) (tables-fit (c3 .args .t1) (_, c3 .good .0))) _ _
+    (c .before .before .flatten .ensures) (λ j h. c .before .loop .inv .1 j (omega arith))
 
 pub no-far-child-spec : {M : Type 1} → statement M
 no-far-child-spec =

@@ -1,9 +1,9 @@
 -- The search stands at place i: the number is found from there on.
 use Prim.Native.Nat.{_+_, _-_, _≤_}
-use mathlib.Core.Path.{_≡_, sym, _∙_}
 use native.Mathlib.Omega.{arith}
-use borrow.Author.Needs.{needs}
+use mathlib.Core.Path.{_≡_, sym, _∙_}
 use lib.ListN.{drop}
+use borrow.Author.Needs.{needs}
 use Rattle.lists.specs.Lists.{firstIndex}
 use Rattle.lists.proofs.Loops.{first-miss, first-hit, first-end}
 use Rattle.tables.specs.Lookup.{hasNumber}
@@ -31,10 +31,13 @@ has-number-requires : tie.Need-has-number-requires Inv-loop μ-loop
 has-number-requires c κs = search needs
 
 returns : tie.Need-returns Inv-loop μ-loop
-returns c = let s = c .before .before .before .before .before in
-    found-here (s .args .t1 .tickets) (s .args .number) (c .before .before .before .before .loop .i)
-    (first-hit (hasNumber (s .args .number)) (s .args .t1 .tickets) _ (c .before .before .before .before .loop .i) (omega (arith, program-fits (s .args .t1) (_, s .good .0) .long))
-    (sym (c .before .has-number .ensures) ∙ c .if1 .taken) (c .before .before .before .before .loop .inv .1))
+returns c =
+    let c4 = c .before .before .before .before in
+    let c5 = c4 .before in
+    found-here (c5 .args .t1 .tickets) (c5 .args .number) (c4 .loop .i)
+    (first-hit (hasNumber (c5 .args .number)) (c5 .args .t1 .tickets) _ (c4 .loop .i)
+    (omega (arith, program-fits (c5 .args .t1) (_, c5 .good .0) .long)) (sym (c .before .has-number .ensures) ∙ c .if1 .taken)
+    (c4 .loop .inv .1))
 
 add-i : tie.Need-add-i Inv-loop μ-loop
 add-i c = search needs
@@ -43,21 +46,25 @@ loop-less : tie.Need-loop-less Inv-loop μ-loop
 loop-less c = search needs
 
 loop-again : tie.Need-loop-again Inv-loop μ-loop
-loop-again c = let s = c .before .before .before .before .before in (
-  omega arith,
-  first-miss (hasNumber (s .args .number)) (s .args .t1 .tickets) _ (c .before .before .before .before .loop .i) (omega (arith, program-fits (s .args .t1) (_, s .good .0) .long))
-      (sym (c .before .has-number .ensures) ∙ c .if1 .left) (c .before .before .before .before .loop .inv .1),
-)
+loop-again c =
+    let c4 = c .before .before .before .before in
+    let c5 = c4 .before in (
+      omega arith,
+      first-miss (hasNumber (c5 .args .number)) (c5 .args .t1 .tickets) _ (c4 .loop .i)
+          (omega (arith, program-fits (c5 .args .t1) (_, c5 .good .0) .long)) (sym (c .before .has-number .ensures) ∙ c .if1 .left)
+          (c4 .loop .inv .1),
+    )
 
 free-requires : tie.Need-free-requires Inv-loop μ-loop
 free-requires c κs = search needs
 
 returns-2 : tie.Need-returns-2 Inv-loop μ-loop
-returns-2 c = let s = c .before .before .before in
-    let long = program-fits (s .args .t1) (_, s .good .0) .long in
-    c .free .ensures
-    ∙ found-none (s .args .t1 .tickets) (s .args .number) (c .before .before .loop .i) (omega arith)
-    (first-end (hasNumber (s .args .number)) (s .args .t1 .tickets) (c .before .before .loop .i) (omega arith) (c .before .before .loop .inv .1))
+returns-2 c =
+    let c2 = c .before .before in
+    let c3 = c2 .before in
+    let long = program-fits (c3 .args .t1) (_, c3 .good .0) .long in
+    c .free .ensures ∙ found-none (c3 .args .t1 .tickets) (c3 .args .number) (c2 .loop .i) (omega arith)
+    (first-end (hasNumber (c3 .args .number)) (c3 .args .t1 .tickets) (c2 .loop .i) (omega arith) (c2 .loop .inv .1))
 
 pub find-spec : {M : Type 1} → statement M
 find-spec =

@@ -1,9 +1,9 @@
 -- The search stands at a place: what is free is found from there on.
 use Prim.Native.Nat.{_+_, _-_, _≤_}
-use mathlib.Core.Path.{_≡_, sym, _∙_}
 use native.Mathlib.Omega.{arith}
-use borrow.Author.Needs.{needs}
+use mathlib.Core.Path.{_≡_, sym, _∙_}
 use lib.ListN.{drop}
+use borrow.Author.Needs.{needs}
 use Rattle.lists.specs.Lists.{firstIndex}
 use Rattle.lists.proofs.Loops.{first-miss, first-hit, first-end}
 use Rattle.tables.specs.Change.{isFree}
@@ -30,9 +30,11 @@ is-free-requires : tie.Need-is-free-requires Inv-loop μ-loop
 is-free-requires c κs = search needs
 
 returns : tie.Need-returns Inv-loop μ-loop
-returns c = let s = c .before .before .before .before .before in
-    first-hit isFree (s .args .t1 .tickets) _ (c .before .before .before .before .loop .place) (omega (arith, program-fits (s .args .t1) (_, s .good .0) .long))
-    (sym (c .before .is-free .ensures) ∙ c .if1 .taken) (c .before .before .before .before .loop .inv .1)
+returns c =
+    let c4 = c .before .before .before .before in
+    let c5 = c4 .before in
+    first-hit isFree (c5 .args .t1 .tickets) _ (c4 .loop .place) (omega (arith, program-fits (c5 .args .t1) (_, c5 .good .0) .long))
+    (sym (c .before .is-free .ensures) ∙ c .if1 .taken) (c4 .loop .inv .1)
 
 add-place : tie.Need-add-place Inv-loop μ-loop
 add-place c = search needs
@@ -41,15 +43,21 @@ loop-less : tie.Need-loop-less Inv-loop μ-loop
 loop-less c = search needs
 
 loop-again : tie.Need-loop-again Inv-loop μ-loop
-loop-again c = let s = c .before .before .before .before .before in (
-  omega arith,
-  first-miss isFree (s .args .t1 .tickets) _ (c .before .before .before .before .loop .place) (omega (arith, program-fits (s .args .t1) (_, s .good .0) .long))
-      (sym (c .before .is-free .ensures) ∙ c .if1 .left) (c .before .before .before .before .loop .inv .1),
-)
+loop-again c =
+    let c4 = c .before .before .before .before in
+    let c5 = c4 .before in (
+      omega arith,
+      first-miss isFree (c5 .args .t1 .tickets) _ (c4 .loop .place)
+          (omega (arith, program-fits (c5 .args .t1) (_, c5 .good .0) .long)) (sym (c .before .is-free .ensures) ∙ c .if1 .left)
+          (c4 .loop .inv .1),
+    )
 
 returns-2 : tie.Need-returns-2 Inv-loop μ-loop
-returns-2 c = let s = c .before .before in
-    first-end isFree (s .args .t1 .tickets) (c .before .loop .place) (omega (arith, program-fits (s .args .t1) (_, s .good .0) .long)) (c .before .loop .inv .1)
+returns-2 c =
+    let c1 = c .before in
+    let c2 = c1 .before in
+    first-end isFree (c2 .args .t1 .tickets) (c1 .loop .place) (omega (arith, program-fits (c2 .args .t1) (_, c2 .good .0) .long))
+    (c1 .loop .inv .1)
 
 pub free-place-spec : {M : Type 1} → statement M
 free-place-spec =

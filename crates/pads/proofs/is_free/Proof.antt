@@ -1,7 +1,7 @@
 -- By the kind.
 use mathlib.Core.Path.{ap}
-use borrow.Author.Needs.{needs}
 use mathlib.Core.Bool.{not}
+use borrow.Author.Needs.{needs}
 use Rattle.tables.specs.Change.{isFree}
 use Rattle.pads.proofs.is_free.Statement.{statement}
 use Rattle.pads.proofs.is_free.Tie as tie

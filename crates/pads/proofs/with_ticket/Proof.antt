@@ -21,7 +21,10 @@ element-set-from-k : tie.Need-element-set-from-k
 element-set-from-k c = search needs
 
 returns-2 : tie.Need-returns-2
-returns-2 c = put-here (c .before .before .args .p) (c .before .before .args .k) (c .before .free-place .result) (c .before .free-place .ensures)
+returns-2 c =
+    let c1 = c .before in
+    let c2 = c1 .before in
+    put-here (c2 .args .p) (c2 .args .k) (c1 .free-place .result) (c1 .free-place .ensures)
 
 pub with-ticket-spec : {M : Type 1} → statement M
 with-ticket-spec =

@@ -1,11 +1,11 @@
 -- The first i tickets have been looked at.
 use Prim.Native.Nat.{_-_, _≤_}
-use mathlib.Core.Path.{_≡_, sym, ap, _∙_}
 use native.Mathlib.Omega.{arith}
-use borrow.Author.Needs.{needs}
-use lib.ListN.{getD}
+use mathlib.Core.Path.{_≡_, sym, ap, _∙_}
 use mathlib.Core.List.{List}
 use mathlib.Core.Bool.{Bool, cond}
+use lib.ListN.{getD}
+use borrow.Author.Needs.{needs}
 use Rattle.lists.proofs.Loops.{map-at}
 use Rattle.tables.specs.declared.{Ticket.Ticket}
 use Rattle.tables.specs.Names.{free}
@@ -50,11 +50,15 @@ loop-less c = search needs
 
 loop-again : tie.Need-loop-again Inv-loop μ-loop
 unfolding withoutTicket
-loop-again c = let a = c .before .before .before .before .before .before .args in
-    let k = getD (c .before .before .before .before .loop .q .tickets) (c .before .before .before .before .loop .i) free in (
+loop-again c =
+    let c4 = c .before .before .before .before in
+    let c5 = c4 .before in
+    let c6 = c5 .before in
+    let a = c6 .args in
+    let k = getD (c4 .loop .q .tickets) (c4 .loop .i) free in (
       omega arith,
-      changed-more (λ j. withoutTicket (a .number)) (a .p) (c .before .before .before .before .loop .q) (c .before .before .before .before .loop .i) (c .before .before .before .before .before .free .result) (c .before .before .before .before .loop .inv .1)
-          (c .before .before .before .before .before .free .ensures ∙ ap (λ (b : Bool). cond b free k) (sym (sym (c .before .has-number .ensures) ∙ c .if1 .taken))),
+      changed-more (λ j. withoutTicket (a .number)) (a .p) (c4 .loop .q) (c4 .loop .i) (c5 .free .result) (c4 .loop .inv .1)
+          (c5 .free .ensures ∙ ap (λ (b : Bool). cond b free k) (sym (sym (c .before .has-number .ensures) ∙ c .if1 .taken))),
     )
 
 loop-less-2 : tie.Need-loop-less-2 Inv-loop μ-loop
@@ -62,18 +66,25 @@ loop-less-2 c = search needs
 
 loop-again-2 : tie.Need-loop-again-2 Inv-loop μ-loop
 unfolding withoutTicket
-loop-again-2 c = let a = c .before .before .before .before .before .before .args in
-    let k = getD (c .before .before .before .before .loop .q .tickets) (c .before .before .before .before .loop .i) free in (
+loop-again-2 c =
+    let c4 = c .before .before .before .before in
+    let c6 = c4 .before .before in
+    let a = c6 .args in
+    let k = getD (c4 .loop .q .tickets) (c4 .loop .i) free in (
       omega arith,
-      changed-kept (λ j. withoutTicket (a .number)) (a .p) (c .before .before .before .before .loop .q) (c .before .before .before .before .loop .i) (c .before .before .before .before .loop .inv .1)
+      changed-kept (λ j. withoutTicket (a .number)) (a .p) (c4 .loop .q) (c4 .loop .i) (c4 .loop .inv .1)
           (ap (λ (b : Bool). cond b free k) (sym (sym (c .before .has-number .ensures) ∙ c .if1 .left))),
     )
 
 returns : tie.Need-returns Inv-loop μ-loop
 unfolding withoutNumber
-returns c = let s = c .before .before .before in
-    changed-all (λ j. withoutTicket (s .args .number)) (s .args .p) (c .before .loop .q) (c .before .loop .i) (c .before .loop .inv .1) (omega (arith, program-fits (s .args .p) (_, s .good .0) .long))
-    ∙ ap (λ (l : List Ticket). record { tickets = l; last = s .args .p .last }) (map-at (withoutTicket (s .args .number)) 0 (s .args .p .tickets))
+returns c =
+    let c1 = c .before in
+    let c3 = c1 .before .before in
+    changed-all (λ j. withoutTicket (c3 .args .number)) (c3 .args .p) (c1 .loop .q) (c1 .loop .i) (c1 .loop .inv .1)
+    (omega (arith, program-fits (c3 .args .p) (_, c3 .good .0) .long)) ∙ ap
+    (λ (l : List Ticket). record { tickets = l; last = c3 .args .p .last })
+    (map-at (withoutTicket (c3 .args .number)) 0 (c3 .args .p .tickets))
 
 pub without-number-spec : {M : Type 1} → statement M
 without-number-spec =

@@ -1,10 +1,10 @@
 -- `children_marked`: the children at the first i places are marked.
 use Prim.Native.Nat.{_-_, _≤_}
-use mathlib.Core.Path.{sym, _∙_}
 use native.Mathlib.Omega.{arith}
+use mathlib.Core.Path.{sym, _∙_}
+use lib.ListN.{getD}
 use borrow.Author.Needs.{needs}
 use borrow.Author.Count.{below-more}
-use lib.ListN.{getD}
 use Rattle.tables.specs.Names.{free}
 use Rattle.recall_marks.specs.Keys.{childMarked}
 use Rattle.recall_marks.proofs.KeySteps.{flat-long, Passed, passed-end, passed-not, child-ok, child-not, no-child}
@@ -39,22 +39,46 @@ element-copy-out-if2 : tie.Need-element-copy-out-if2 Inv-loop μ-loop
 element-copy-out-if2 c = search needs
 
 returns : tie.Need-returns Inv-loop μ-loop
-returns c = passed-not (childMarked (c .before .before .before .before .before .before .before .args .marks .now)) (c .before .before .before .before .before .before .before .args .t1 .tickets) (c .before .before .before .before .before .before .loop .i) (omega (arith, flat-long (c .before .before .before .before .before .before .before .args .t1) (_, c .before .before .before .before .before .before .before .good .0))) (child-not (c .before .before .before .before .before .before .before .args .marks .now) (c .before .before .before .before .before .before .loop .i) (getD (c .before .before .before .before .before .before .before .args .t1 .tickets) (c .before .before .before .before .before .before .loop .i) free) (sym (c .before .before .before .is-child .ensures) ∙ c .before .before .if1 .taken) (c .if2 .taken))
+returns c =
+    let c3 = c .before .before .before in
+    let c6 = c3 .before .before .before in
+    let c7 = c6 .before in
+    passed-not (childMarked (c7 .args .marks .now)) (c7 .args .t1 .tickets) (c6 .loop .i)
+    (omega (arith, flat-long (c7 .args .t1) (_, c7 .good .0)))
+    (child-not (c7 .args .marks .now) (c6 .loop .i) (getD (c7 .args .t1 .tickets) (c6 .loop .i) free)
+    (sym (c3 .is-child .ensures) ∙ c .before .before .if1 .taken) (c .if2 .taken))
 
 loop-less : tie.Need-loop-less Inv-loop μ-loop
 loop-less c = search needs
 
 loop-again : tie.Need-loop-again Inv-loop μ-loop
-loop-again c = (omega arith, below-more _ _ (c .before .before .before .before .before .before .loop .inv .1) (child-ok (c .before .before .before .before .before .before .before .args .marks .now) (c .before .before .before .before .before .before .loop .i) (getD (c .before .before .before .before .before .before .before .args .t1 .tickets) (c .before .before .before .before .before .before .loop .i) free) (c .if2 .left)))
+loop-again c =
+    let c6 = c .before .before .before .before .before .before in
+    let c7 = c6 .before in (
+      omega arith,
+      below-more _ _ (c6 .loop .inv .1)
+          (child-ok (c7 .args .marks .now) (c6 .loop .i) (getD (c7 .args .t1 .tickets) (c6 .loop .i) free) (c .if2 .left)),
+    )
 
 loop-less-2 : tie.Need-loop-less-2 Inv-loop μ-loop
 loop-less-2 c = search needs
 
 loop-again-2 : tie.Need-loop-again-2 Inv-loop μ-loop
-loop-again-2 c = (omega arith, below-more _ _ (c .before .before .before .before .loop .inv .1) (no-child (c .before .before .before .before .before .args .marks .now) (c .before .before .before .before .loop .i) (getD (c .before .before .before .before .before .args .t1 .tickets) (c .before .before .before .before .loop .i) free) (sym (c .before .is-child .ensures) ∙ c .if1 .left)))
+loop-again-2 c =
+    let c4 = c .before .before .before .before in
+    let c5 = c4 .before in (
+      omega arith,
+      below-more _ _ (c4 .loop .inv .1)
+          (no-child (c5 .args .marks .now) (c4 .loop .i) (getD (c5 .args .t1 .tickets) (c4 .loop .i) free)
+          (sym (c .before .is-child .ensures) ∙ c .if1 .left)),
+    )
 
 returns-2 : tie.Need-returns-2 Inv-loop μ-loop
-returns-2 c = passed-end (childMarked (c .before .before .args .marks .now)) (c .before .before .args .t1 .tickets) (c .before .loop .i) (omega (arith, flat-long (c .before .before .args .t1) (_, c .before .before .good .0))) (c .before .loop .inv .1)
+returns-2 c =
+    let c1 = c .before in
+    let c2 = c1 .before in
+    passed-end (childMarked (c2 .args .marks .now)) (c2 .args .t1 .tickets) (c1 .loop .i)
+    (omega (arith, flat-long (c2 .args .t1) (_, c2 .good .0))) (c1 .loop .inv .1)
 
 pub children-marked-spec : {M : Type 1} → statement M
 children-marked-spec =

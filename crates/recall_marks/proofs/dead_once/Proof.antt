@@ -1,10 +1,10 @@
 -- `dead_once`: the list has the dead ones of the first i keys (`Dead` in Seen), and those keys are apart. A listed key was seen before.
 use Prim.Native.Nat.{ℕ, _-_, _≤_}
-use mathlib.Core.Path.{sym, _∙_}
 use native.Mathlib.Omega.{arith}
-use borrow.Author.Needs.{needs}
+use mathlib.Core.Path.{sym, _∙_}
 use lib.ListN.{length-replicate}
 use lib.Seq.{length-take-le}
+use borrow.Author.Needs.{needs}
 use Rattle.recall_marks.proofs.Seen.{Dead, dead-none, dead-skip, dead-more, dead-not, dead-end}
 use Rattle.recall_marks.proofs.dead_once.Statement.{statement}
 use Rattle.recall_marks.proofs.dead_once.Tie as tie
@@ -34,13 +34,20 @@ array-share-prefix-dead : tie.Need-array-share-prefix-dead Inv-loop μ-loop
 array-share-prefix-dead c = omega (arith, c .before .before .before .loop .inv .1 .few, c .before .before .before .loop .inv .1 .long)
 
 slice-aggregate-has : tie.Need-slice-aggregate-has Inv-loop μ-loop
-slice-aggregate-has c = sym (length-take-le (c .before .before .before .before .loop .count) (c .before .before .before .before .loop .dead) (omega (arith, c .before .before .before .before .loop .inv .1 .few, c .before .before .before .before .loop .inv .1 .long)))
+slice-aggregate-has c =
+    let c4 = c .before .before .before .before in
+    sym (length-take-le (c4 .loop .count) (c4 .loop .dead) (omega (arith, c4 .loop .inv .1 .few, c4 .loop .inv .1 .long)))
 
 has-requires : tie.Need-has-requires Inv-loop μ-loop
 has-requires c κs = search needs
 
 returns : tie.Need-returns Inv-loop μ-loop
-returns c = dead-not (c .before .before .before .before .before .before .before .args .keys .now) (c .before .before .before .before .before .before .loop .i) (c .before .before .before .before .before .before .loop .count) (c .before .before .before .before .before .before .loop .dead) (c .before .before .before .before .before .before .loop .inv .1) (c .before .before .before .if1 .taken) (omega (arith, c .before .before .before .before .before .before .before .pre)) (sym (c .before .has .ensures) ∙ c .if2 .taken)
+returns c =
+    let c3 = c .before .before .before in
+    let c6 = c3 .before .before .before in
+    let c7 = c6 .before in
+    dead-not (c7 .args .keys .now) (c6 .loop .i) (c6 .loop .count) (c6 .loop .dead) (c6 .loop .inv .1) (c3 .if1 .taken)
+    (omega (arith, c7 .pre)) (sym (c .before .has .ensures) ∙ c .if2 .taken)
 
 mul-dead : tie.Need-mul-dead Inv-loop μ-loop
 mul-dead c = omega (arith, c .before .before .before .before .before .before .loop .inv .1 .few)
@@ -55,16 +62,29 @@ loop-less : tie.Need-loop-less Inv-loop μ-loop
 loop-less c = search needs
 
 loop-again : tie.Need-loop-again Inv-loop μ-loop
-loop-again c = (omega arith, dead-more (c .before .before .before .before .before .before .before .args .keys .now) (c .before .before .before .before .before .before .loop .i) (c .before .before .before .before .before .before .loop .count) (c .before .before .before .before .before .before .loop .dead) (c .before .before .before .before .before .before .loop .inv .1) (c .before .before .before .if1 .taken) (omega arith) (sym (c .before .has .ensures) ∙ c .if2 .left))
+loop-again c =
+    let c3 = c .before .before .before in
+    let c6 = c3 .before .before .before in
+    let c7 = c6 .before in (
+      omega arith,
+      dead-more (c7 .args .keys .now) (c6 .loop .i) (c6 .loop .count) (c6 .loop .dead) (c6 .loop .inv .1) (c3 .if1 .taken)
+          (omega arith) (sym (c .before .has .ensures) ∙ c .if2 .left),
+    )
 
 loop-less-2 : tie.Need-loop-less-2 Inv-loop μ-loop
 loop-less-2 c = search needs
 
 loop-again-2 : tie.Need-loop-again-2 Inv-loop μ-loop
-loop-again-2 c = (omega arith, dead-skip (c .before .before .before .before .args .keys .now) (c .before .before .before .loop .i) (c .before .before .before .loop .count) (c .before .before .before .loop .dead) (c .before .before .before .loop .inv .1) (c .if1 .left))
+loop-again-2 c =
+    let c3 = c .before .before .before in
+    let c4 = c3 .before in
+    (omega arith, dead-skip (c4 .args .keys .now) (c3 .loop .i) (c3 .loop .count) (c3 .loop .dead) (c3 .loop .inv .1) (c .if1 .left))
 
 returns-2 : tie.Need-returns-2 Inv-loop μ-loop
-returns-2 c = dead-end (c .before .before .args .keys .now) (c .before .loop .i) (c .before .loop .count) (c .before .loop .dead) (c .before .loop .inv .1) (omega (arith, c .before .before .pre))
+returns-2 c =
+    let c1 = c .before in
+    let c2 = c1 .before in
+    dead-end (c2 .args .keys .now) (c1 .loop .i) (c1 .loop .count) (c1 .loop .dead) (c1 .loop .inv .1) (omega (arith, c2 .pre))
 
 pub dead-once-spec : {M : Type 1} → statement M
 dead-once-spec =

@@ -1,10 +1,10 @@
 -- `has`: the number stands nowhere among the first i.
 use Prim.Native.Nat.{ℕ, _-_, _≤_, _<_}
-use mathlib.Core.Path.{_≡_}
 use native.Mathlib.Omega.{arith}
+use mathlib.Core.Path.{_≡_}
+use lib.ListN.{length, getD}
 use borrow.Author.Needs.{needs}
 use borrow.Author.Count.{below-more}
-use lib.ListN.{length, getD}
 use Rattle.recall_marks.proofs.Seen.{has-here, has-none}
 use Rattle.recall_marks.proofs.has.Statement.{statement}
 use Rattle.recall_marks.proofs.has.Tie as tie
@@ -27,7 +27,10 @@ shared-slice-read-if1 : tie.Need-shared-slice-read-if1 Inv-loop μ-loop
 shared-slice-read-if1 c = search needs
 
 returns : tie.Need-returns Inv-loop μ-loop
-returns c = has-here (c .before .before .before .before .args .numbers .now) (c .before .before .before .before .args .x) (c .before .before .before .loop .i) (omega arith) (c .if1 .taken)
+returns c =
+    let c3 = c .before .before .before in
+    let c4 = c3 .before in
+    has-here (c4 .args .numbers .now) (c4 .args .x) (c3 .loop .i) (omega arith) (c .if1 .taken)
 
 add-i : tie.Need-add-i Inv-loop μ-loop
 add-i c = search needs
@@ -39,7 +42,10 @@ loop-again : tie.Need-loop-again Inv-loop μ-loop
 loop-again c = (search needs, below-more _ _ (c .before .before .before .loop .inv .1) (c .if1 .left))
 
 returns-2 : tie.Need-returns-2 Inv-loop μ-loop
-returns-2 c = has-none (c .before .before .args .numbers .now) (c .before .before .args .x) (c .before .loop .i) (omega arith) (c .before .loop .inv .1)
+returns-2 c =
+    let c1 = c .before in
+    let c2 = c1 .before in
+    has-none (c2 .args .numbers .now) (c2 .args .x) (c1 .loop .i) (omega arith) (c1 .loop .inv .1)
 
 pub has-spec : {M : Type 1} → statement M
 has-spec =

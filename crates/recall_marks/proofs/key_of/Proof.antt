@@ -1,7 +1,7 @@
 -- `key_of`: a place below 256 is the key itself; otherwise the code's sum is the one that spells the name.
 use Prim.Native.Nat.{_+_, _*_}
-use mathlib.Core.Path.{_≡_, _∙_}
 use native.Mathlib.Omega.{arith}
+use mathlib.Core.Path.{_≡_, _∙_}
 use borrow.Author.Needs.{needs}
 use Rattle.recall_marks.proofs.KeySteps.{deadKey, key-place, key-dead}
 use Rattle.recall_marks.proofs.key_of.Statement.{statement}
@@ -38,7 +38,14 @@ add-result-2 : tie.Need-add-result-2
 add-result-2 c = search needs
 
 returns-2 : tie.Need-returns-2
-returns-2 c = let n = c .before .before .before .before .args .target in let e : 257 + (c .before .before .wide .result * 65536 + c .before .wide2 .result) * 65536 + c .wide3 .result ≡ deadKey n = omega (arith, c .before .before .wide .ensures, c .before .wide2 .ensures, c .wide3 .ensures) in e ∙ key-dead (c .before .before .before .before .args .place) n (omega (arith, c .before .before .before .if1 .left))
+returns-2 c =
+    let c1 = c .before in
+    let c2 = c1 .before in
+    let c3 = c2 .before in
+    let c4 = c3 .before in
+    let n = c4 .args .target in
+    let e : 257 + (c2 .wide .result * 65536 + c1 .wide2 .result) * 65536 + c .wide3 .result ≡ deadKey n = omega (arith, c2 .wide .ensures, c1 .wide2 .ensures, c .wide3 .ensures) in
+    e ∙ key-dead (c4 .args .place) n (omega (arith, c3 .if1 .left))
 
 pub key-of-spec : {M : Type 1} → statement M
 key-of-spec =

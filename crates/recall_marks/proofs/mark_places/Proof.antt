@@ -30,7 +30,11 @@ element-copy-out-if2 : tie.Need-element-copy-out-if2 Inv-loop μ-loop
 element-copy-out-if2 c = search needs
 
 returns : tie.Need-returns Inv-loop μ-loop
-returns c = marks-not (c .before .before .before .before .before .before .args .keys .now) (c .before .before .before .before .before .loop .i) (c .before .before .before .before .before .loop .marks) (c .before .before .before .before .before .loop .inv .1) (c .before .before .if1 .taken) (omega arith) (c .if2 .taken)
+returns c =
+    let c5 = c .before .before .before .before .before in
+    let c6 = c5 .before in
+    marks-not (c6 .args .keys .now) (c5 .loop .i) (c5 .loop .marks) (c5 .loop .inv .1) (c .before .before .if1 .taken) (omega arith)
+    (c .if2 .taken)
 
 element-write-marks : tie.Need-element-write-marks Inv-loop μ-loop
 element-write-marks c = search needs
@@ -39,16 +43,27 @@ loop-less : tie.Need-loop-less Inv-loop μ-loop
 loop-less c = search needs
 
 loop-again : tie.Need-loop-again Inv-loop μ-loop
-loop-again c = (omega arith, marks-more (c .before .before .before .before .before .before .args .keys .now) (c .before .before .before .before .before .loop .i) (c .before .before .before .before .before .loop .marks) (c .before .before .before .before .before .loop .inv .1) (c .before .before .if1 .taken) (c .if2 .left))
+loop-again c =
+    let c5 = c .before .before .before .before .before in
+    let c6 = c5 .before in (
+      omega arith,
+      marks-more (c6 .args .keys .now) (c5 .loop .i) (c5 .loop .marks) (c5 .loop .inv .1) (c .before .before .if1 .taken)
+          (c .if2 .left),
+    )
 
 loop-less-2 : tie.Need-loop-less-2 Inv-loop μ-loop
 loop-less-2 c = search needs
 
 loop-again-2 : tie.Need-loop-again-2 Inv-loop μ-loop
-loop-again-2 c = (omega arith, marks-skip (c .before .before .before .before .args .keys .now) (c .before .before .before .loop .i) (c .before .before .before .loop .marks) (c .before .before .before .loop .inv .1) (c .if1 .left))
+loop-again-2 c =
+    let c3 = c .before .before .before in
+    let c4 = c3 .before in
+    (omega arith, marks-skip (c4 .args .keys .now) (c3 .loop .i) (c3 .loop .marks) (c3 .loop .inv .1) (c .if1 .left))
 
 returns-2 : tie.Need-returns-2 Inv-loop μ-loop
-returns-2 c = marks-end (c .before .before .args .keys .now) (c .before .loop .i) (c .before .loop .marks) (c .before .loop .inv .1) (omega arith)
+returns-2 c =
+    let c1 = c .before in
+    marks-end (c .before .before .args .keys .now) (c1 .loop .i) (c1 .loop .marks) (c1 .loop .inv .1) (omega arith)
 
 pub mark-places-spec : {M : Type 1} → statement M
 mark-places-spec =

@@ -17,7 +17,10 @@ is-recall-requires : tie.Need-is-recall-requires
 is-recall-requires c κs = search needs
 
 returns : tie.Need-returns
-returns c = key-none (c .before .before .before .args .numbers .now) (c .before .before .before .args .k) (sym (c .before .is-recall .ensures) ∙ not-true (c .before .is-recall .result) (c .if1 .taken))
+returns c =
+    let c1 = c .before in
+    let c3 = c1 .before .before in
+    key-none (c3 .args .numbers .now) (c3 .args .k) (sym (c1 .is-recall .ensures) ∙ not-true (c1 .is-recall .result) (c .if1 .taken))
 
 place-of-requires : tie.Need-place-of-requires
 place-of-requires c κs = search needs
@@ -26,7 +29,12 @@ key-of-requires : tie.Need-key-of-requires
 key-of-requires c κs = search needs
 
 returns-2 : tie.Need-returns-2
-returns-2 c = c .key-of .ensures ∙ ap (λ (p : ℕ). keyOf p (c .before .before .before .before .before .before .args .k .other)) (c .before .place-of .ensures) ∙ key-recall (c .before .before .before .before .before .before .args .numbers .now) (c .before .before .before .before .before .before .args .k) (sym (c .before .before .before .before .is-recall .ensures) ∙ not-false (c .before .before .before .before .is-recall .result) (c .before .before .before .if1 .left))
+returns-2 c =
+    let c3 = c .before .before .before in
+    let c4 = c3 .before in
+    let c6 = c4 .before .before in
+    c .key-of .ensures ∙ ap (λ (p : ℕ). keyOf p (c6 .args .k .other)) (c .before .place-of .ensures) ∙ key-recall (c6 .args .numbers .now)
+    (c6 .args .k) (sym (c4 .is-recall .ensures) ∙ not-false (c4 .is-recall .result) (c3 .if1 .left))
 
 pub target-key-spec : {M : Type 1} → statement M
 target-key-spec =

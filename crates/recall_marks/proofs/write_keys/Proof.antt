@@ -1,10 +1,10 @@
 -- `write_keys`: the first i keys of the tickets are laid over what the array held; at the end that is all of them.
 use Prim.Native.Nat.{_-_, _≤_, _<_}
-use mathlib.Core.Path.{_≡_, refl, sym, _∙_}
 use native.Mathlib.Omega.{arith}
-use borrow.Author.Needs.{needs}
+use mathlib.Core.Path.{_≡_, refl, sym, _∙_}
 use mathlib.Core.List.{map}
 use lib.ListN.{length, length-set, length-map}
+use borrow.Author.Needs.{needs}
 use Rattle.lists.proofs.Front.{front, front-none, front-end}
 use Rattle.recall_marks.specs.Keys.{targetKey}
 use Rattle.recall_marks.proofs.KeySteps.{flat-long, written}
@@ -47,20 +47,30 @@ loop-less c = search needs
 
 loop-again : tie.Need-loop-again Inv-loop μ-loop
 loop-again c =
-    let ks = c .before .before .before .before .before .before .args .t1 .tickets in
-    let i = c .before .before .before .loop .i in
-    let l : i < length ks = omega (arith, flat-long (c .before .before .before .before .before .before .args .t1) (_, c .before .before .before .before .before .before .good .0)) in
-    (omega arith, (length-set (c .before .before .before .loop .keys) i _ ∙ c .before .before .before .loop .inv .1 .0, written (targetKey (c .before .before .before .before .before .before .args .numbers .now)) ks (c .before .before .before .loop .keys) (c .before .before .before .before .before .before .args .keys .now) i _ l (c .target-key .ensures) (c .before .before .before .loop .inv .1 .1)))
+    let c3 = c .before .before .before in
+    let c6 = c3 .before .before .before in
+    let ks = c6 .args .t1 .tickets in
+    let i = c3 .loop .i in
+    let l : i < length ks = omega (arith, flat-long (c6 .args .t1) (_, c6 .good .0)) in (
+      omega arith,
+      (
+        length-set (c3 .loop .keys) i _ ∙ c3 .loop .inv .1 .0,
+        written (targetKey (c6 .args .numbers .now)) ks (c3 .loop .keys)
+            (c6 .args .keys .now) i _ l (c .target-key .ensures) (c3 .loop .inv .1 .1),
+      ),
+    )
 
 same-length : tie.Need-same-length Inv-loop μ-loop
 same-length c = omega (arith, c .before .loop .inv .1 .0)
 
 returns : tie.Need-returns Inv-loop μ-loop
 returns c =
-    let g = targetKey (c .before .before .before .before .args .numbers .now) in
-    let ks = c .before .before .before .before .args .t1 .tickets in
-    let l : length (map g ks) ≡ 256 = length-map ks g ∙ flat-long (c .before .before .before .before .args .t1) (_, c .before .before .before .before .good .0) in
-    c .before .loop .inv .1 .1 ∙ front-end (c .before .loop .i) (map g ks) (c .before .before .before .before .args .keys .now) (omega arith) (c .before .before .before .before .pre .1 ∙ sym l)
+    let c1 = c .before in
+    let c4 = c1 .before .before .before in
+    let g = targetKey (c4 .args .numbers .now) in
+    let ks = c4 .args .t1 .tickets in
+    let l : length (map g ks) ≡ 256 = length-map ks g ∙ flat-long (c4 .args .t1) (_, c4 .good .0) in
+    c1 .loop .inv .1 .1 ∙ front-end (c1 .loop .i) (map g ks) (c4 .args .keys .now) (omega arith) (c4 .pre .1 ∙ sym l)
 
 pub write-keys-spec : {M : Type 1} → statement M
 write-keys-spec =

@@ -1,9 +1,9 @@
 -- `was_given`: the two bounds of a program, then its last number at 8 * pad + program.
 use Prim.Native.Nat.{ℕ}
-use mathlib.Core.Path.{ap, _∙_}
 use native.Mathlib.Omega.{arith}
-use borrow.Author.Needs.{needs}
+use mathlib.Core.Path.{ap, _∙_}
 use lib.ListN.{getD}
+use borrow.Author.Needs.{needs}
 use Rattle.lists.specs.Tests.{between}
 use Rattle.recall_order.proofs.OneRecall.{not-given-pad, not-given-program, given-number}
 use Rattle.recall_order.proofs.was_given.Statement.{statement}
@@ -17,7 +17,9 @@ returns : tie.Need-returns
 returns c = not-given-pad (c .before .before .args .t1) (c .before .before .args .n) (c .if1 .taken)
 
 returns-2 : tie.Need-returns-2
-returns-2 c = not-given-program (c .before .before .before .before .args .t1) (c .before .before .before .before .args .n) (omega (arith, c .before .before .if1 .left)) (c .if2 .taken)
+returns-2 c =
+    let c4 = c .before .before .before .before in
+    not-given-program (c4 .args .t1) (c4 .args .n) (omega (arith, c .before .before .if1 .left)) (c .if2 .taken)
 
 wide-requires : tie.Need-wide-requires
 wide-requires c κs = search needs
@@ -41,7 +43,14 @@ is-between-requires : tie.Need-is-between-requires
 is-between-requires c κs = search needs
 
 returns-3 : tie.Need-returns-3
-returns-3 c = let n = c .before .before .before .before .before .before .before .args .n in c .is-between .ensures ∙ ap (λ (i : ℕ). between 1 (getD (c .before .before .before .before .before .before .before .args .t1) i 0) (n .number)) (omega (arith, c .before .before .wide .ensures, c .before .wide2 .ensures)) ∙ given-number (c .before .before .before .before .before .before .before .args .t1) n (omega (arith, c .before .before .before .before .before .if1 .left)) (omega (arith, c .before .before .before .if2 .left))
+returns-3 c =
+    let c3 = c .before .before .before in
+    let c5 = c3 .before .before in
+    let c7 = c5 .before .before in
+    let n = c7 .args .n in
+    c .is-between .ensures ∙ ap (λ (i : ℕ). between 1 (getD (c7 .args .t1) i 0) (n .number))
+    (omega (arith, c .before .before .wide .ensures, c .before .wide2 .ensures)) ∙ given-number (c7 .args .t1) n
+    (omega (arith, c5 .if1 .left)) (omega (arith, c3 .if2 .left))
 
 pub was-given-spec : {M : Type 1} → statement M
 was-given-spec =

@@ -50,10 +50,16 @@ field-ok-requires-4 c κs = search needs
 returns-4 : tie.Need-returns-4
 unfolding fieldsOk
 returns-4 c =
+    let c3 = c .before .before .before in
+    let c4 = c3 .before in
+    let c5 = c4 .before in
+    let c6 = c5 .before in
+    let c7 = c6 .before in
     rw (
-      good (c .before .before .before .before .before .before .before .field-ok .ensures) (c .before .before .before .before .before .before .if1 .left),
-      good (c .before .before .before .before .before .field-ok2 .ensures) (c .before .before .before .before .if2 .left),
-      good (c .before .before .before .field-ok3 .ensures) (c .before .before .if3 .left),
+      good (c7 .field-ok .ensures) (c6 .if1 .left),
+      good (c5 .field-ok2 .ensures) (c4 .if2 .left),
+      good (c3 .field-ok3 .ensures)
+          (c .before .before .if3 .left),
       bad (c .before .field-ok4 .ensures) (c .if4 .taken),
     )
 
@@ -63,11 +69,19 @@ field-ok-requires-5 c κs = search needs
 returns-5 : tie.Need-returns-5
 unfolding fieldsOk
 returns-5 c =
+    let c3 = c .before .before .before in
+    let c4 = c3 .before in
+    let c5 = c4 .before in
+    let c6 = c5 .before in
+    let c7 = c6 .before in
+    let c8 = c7 .before in
+    let c9 = c8 .before in
     rw (
-      good (c .before .before .before .before .before .before .before .before .before .field-ok .ensures) (c .before .before .before .before .before .before .before .before .if1 .left),
-      good (c .before .before .before .before .before .before .before .field-ok2 .ensures) (c .before .before .before .before .before .before .if2 .left),
-      good (c .before .before .before .before .before .field-ok3 .ensures) (c .before .before .before .before .if3 .left),
-      good (c .before .before .before .field-ok4 .ensures) (c .before .before .if4 .left),
+      good (c9 .field-ok .ensures) (c8 .if1 .left),
+      good (c7 .field-ok2 .ensures) (c6 .if2 .left),
+      good (c5 .field-ok3 .ensures)
+          (c4 .if3 .left),
+      good (c3 .field-ok4 .ensures) (c .before .before .if4 .left),
       bad (c .before .field-ok5 .ensures) (c .if5 .taken),
     )
 
@@ -77,11 +91,20 @@ field-ok-requires-6 c κs = search needs
 returns-6 : tie.Need-returns-6
 unfolding fieldsOk
 returns-6 c =
+    let c3 = c .before .before .before in
+    let c4 = c3 .before in
+    let c5 = c4 .before in
+    let c6 = c5 .before in
+    let c7 = c6 .before in
+    let c8 = c7 .before in
+    let c9 = c8 .before in
+    let c10 = c9 .before in
     rw (
-      good (c .before .before .before .before .before .before .before .before .before .before .field-ok .ensures) (c .before .before .before .before .before .before .before .before .before .if1 .left),
-      good (c .before .before .before .before .before .before .before .before .field-ok2 .ensures) (c .before .before .before .before .before .before .before .if2 .left),
-      good (c .before .before .before .before .before .before .field-ok3 .ensures) (c .before .before .before .before .before .if3 .left),
-      good (c .before .before .before .before .field-ok4 .ensures) (c .before .before .before .if4 .left),
+      good (c10 .field-ok .ensures) (c9 .if1 .left),
+      good (c8 .field-ok2 .ensures) (c7 .if2 .left),
+      good (c6 .field-ok3 .ensures)
+          (c5 .if3 .left),
+      good (c4 .field-ok4 .ensures) (c3 .if4 .left),
       good (c .before .before .field-ok5 .ensures) (c .before .if5 .left),
     )
     (c .field-ok6 .ensures)

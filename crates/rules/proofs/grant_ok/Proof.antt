@@ -1,34 +1,41 @@
 use mathlib.Core.Path.{sym, _∙_}
 use borrow.Author.Tests.{eq-eqb, ne-eqb, not-true, not-false}
-use Rattle.tables.specs.Order.{grantOk}
 use borrow.Author.Needs.{needs}
+use Rattle.tables.specs.Order.{grantOk}
 use Rattle.rules.proofs.grant_ok.Statement.{statement}
 use Rattle.rules.proofs.grant_ok.Tie as tie
 use Rattle.rules.proofs.kind_ok.Reads as kind-ok-reads
 
--- src/lib.rt:132:9
 kind-ok-requires : tie.Need-kind-ok-requires
 kind-ok-requires c κs = search needs
 
--- src/lib.rt:133:9
 returns : tie.Need-returns
 unfolding grantOk
 returns c = rw (sym (c .before .kind-ok .ensures) ∙ not-true _ (c .if1 .taken))
 
--- src/lib.rt:136:9
 returns-2 : tie.Need-returns-2
 unfolding grantOk
-returns-2 c = rw (sym (c .before .before .before .before .kind-ok .ensures) ∙ not-false _ (c .before .before .before .if1 .left), ne-eqb _ _ (c .if2 .taken))
+returns-2 c =
+    let c3 = c .before .before .before in
+    let c4 = c3 .before in
+    rw (sym (c4 .kind-ok .ensures) ∙ not-false _ (c3 .if1 .left), ne-eqb _ _ (c .if2 .taken))
 
--- src/lib.rt:139:9
 returns-3 : tie.Need-returns-3
 unfolding grantOk
-returns-3 c = rw (sym (c .before .before .before .before .before .before .before .kind-ok .ensures) ∙ not-false _ (c .before .before .before .before .before .before .if1 .left), eq-eqb _ _ (c .before .before .before .if2 .left), ne-eqb _ _ (c .if3 .taken))
+returns-3 c =
+    let c3 = c .before .before .before in
+    let c6 = c3 .before .before .before in
+    let c7 = c6 .before in
+    rw (sym (c7 .kind-ok .ensures) ∙ not-false _ (c6 .if1 .left), eq-eqb _ _ (c3 .if2 .left), ne-eqb _ _ (c .if3 .taken))
 
--- src/lib.rt:128:1
 returns-4 : tie.Need-returns-4
 unfolding grantOk
-returns-4 c = rw (sym (c .before .before .before .before .before .before .before .before .before .before .before .kind-ok .ensures) ∙ not-false _ (c .before .before .before .before .before .before .before .before .before .before .if1 .left), eq-eqb _ _ (c .before .before .before .before .before .before .before .if2 .left), eq-eqb _ _ (c .before .before .before .before .if3 .left))
+returns-4 c =
+    let c4 = c .before .before .before .before in
+    let c7 = c4 .before .before .before in
+    let c10 = c7 .before .before .before in
+    let c11 = c10 .before in
+    rw (sym (c11 .kind-ok .ensures) ∙ not-false _ (c10 .if1 .left), eq-eqb _ _ (c7 .if2 .left), eq-eqb _ _ (c4 .if3 .left))
 
 pub grant-ok-spec : {M : Type 1} → statement M
 grant-ok-spec = tie.close (tie.spec kind-ok-requires returns returns-2 returns-3 returns-4)

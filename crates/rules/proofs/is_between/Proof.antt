@@ -3,12 +3,10 @@ use Rattle.lists.specs.Tests.{between}
 use Rattle.rules.proofs.is_between.Statement.{statement}
 use Rattle.rules.proofs.is_between.Tie as tie
 
--- src/lib.rt:21:9
 returns : tie.Need-returns
 unfolding between
 returns c = rw (lt-leb _ _ (c .if1 .taken))
 
--- src/lib.rt:17:1
 returns-2 : tie.Need-returns-2
 unfolding between
 returns-2 c = rw (le-leb _ _ (c .if1 .left))

@@ -1,26 +1,22 @@
 use mathlib.Core.Path.{sym, _∙_}
 use borrow.Author.Tests.{not-true, not-false}
-use Rattle.tables.specs.Order.{isChildOf}
 use borrow.Author.Needs.{needs}
+use Rattle.tables.specs.Order.{isChildOf}
 use Rattle.rules.proofs.is_child_of.Statement.{statement}
 use Rattle.rules.proofs.is_child_of.Tie as tie
 use Rattle.tables.proofs.Kind.is_child.Reads as is-child-reads
 use Rattle.tables.proofs.Name.is.Reads as is-reads
 
--- src/lib.rt:179:9
 is-child-requires : tie.Need-is-child-requires
 is-child-requires c κs = search needs
 
--- src/lib.rt:180:9
 returns : tie.Need-returns
 unfolding isChildOf
 returns c = rw (sym (c .before .is-child .ensures) ∙ not-true _ (c .if1 .taken))
 
--- src/lib.rt:183:5
 is-requires : tie.Need-is-requires
 is-requires c κs = search needs
 
--- src/lib.rt:175:1
 returns-2 : tie.Need-returns-2
 unfolding isChildOf
 returns-2 c = c .is .ensures ∙ rw (sym (c .before .before .before .is-child .ensures) ∙ not-false _ (c .before .before .if1 .left))

@@ -6,19 +6,15 @@ use Rattle.rules.proofs.kind_ok.Tie as tie
 use Rattle.tables.proofs.Kind.is_received.Reads as is-received-reads
 use Rattle.tables.proofs.Kind.is_taken.Reads as is-taken-reads
 
--- src/lib.rt:122:9
 is-taken-requires : tie.Need-is-taken-requires
 is-taken-requires c κs = search needs
 
--- src/lib.rt:122:9
 returns : tie.Need-returns
 returns c = c .is-taken .ensures ∙ rw (eq-eqb _ _ (c .before .if1 .taken))
 
--- src/lib.rt:124:5
 is-received-requires : tie.Need-is-received-requires
 is-received-requires c κs = search needs
 
--- src/lib.rt:117:1
 returns-2 : tie.Need-returns-2
 returns-2 c = c .is-received .ensures ∙ rw (ne-eqb _ _ (c .before .if1 .left))
 

@@ -1,26 +1,22 @@
 use mathlib.Core.Path.{sym, _∙_}
 use borrow.Author.Tests.{not-true, not-false}
-use Rattle.tables.specs.Order.{recallParentOk}
 use borrow.Author.Needs.{needs}
+use Rattle.tables.specs.Order.{recallParentOk}
 use Rattle.rules.proofs.recall_parent_ok.Statement.{statement}
 use Rattle.rules.proofs.recall_parent_ok.Tie as tie
 use Rattle.rights.proofs.Rights.can_pass.Reads as can-pass-reads
 use Rattle.tables.proofs.Kind.is_grant.Reads as is-grant-reads
 
--- src/lib.rt:167:9
 is-grant-requires : tie.Need-is-grant-requires
 is-grant-requires c κs = search needs
 
--- src/lib.rt:168:9
 returns : tie.Need-returns
 unfolding recallParentOk
 returns c = rw (sym (c .before .is-grant .ensures) ∙ not-true _ (c .if1 .taken))
 
--- src/lib.rt:171:5
 can-pass-requires : tie.Need-can-pass-requires
 can-pass-requires c κs = search needs
 
--- src/lib.rt:163:1
 returns-2 : tie.Need-returns-2
 unfolding recallParentOk
 returns-2 c = c .can-pass .ensures ∙ rw (sym (c .before .before .before .is-grant .ensures) ∙ not-false _ (c .before .before .if1 .left))

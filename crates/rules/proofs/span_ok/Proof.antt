@@ -1,41 +1,36 @@
 use mathlib.Core.Path.{_∙_}
 use borrow.Author.Tests.{le-leb, lt-leb}
-use Rattle.tables.specs.Order.{spanOk}
 use borrow.Author.Needs.{needs}
+use Rattle.tables.specs.Order.{spanOk}
 use Rattle.rules.proofs.span_ok.Statement.{statement}
 use Rattle.rules.proofs.span_ok.Tie as tie
 use Rattle.rules.proofs.is_between.Reads as is-between-reads
 
--- src/lib.rt:78:9
 returns : tie.Need-returns
 unfolding spanOk
 returns c = rw (lt-leb _ _ (c .if1 .taken))
 
--- src/lib.rt:80:14
 cast-if2 : tie.Need-cast-if2
 cast-if2 c = search needs
 
--- src/lib.rt:80:33
 cast-if2-2 : tie.Need-cast-if2-2
 cast-if2-2 c = search needs
 
--- src/lib.rt:80:14
 add-if2 : tie.Need-add-if2
 add-if2 c = search needs
 
--- src/lib.rt:81:9
 returns-2 : tie.Need-returns-2
 unfolding spanOk
 returns-2 c = rw (le-leb _ _ (c .before .before .before .if1 .left), lt-leb _ _ (c .if2 .taken))
 
--- src/lib.rt:84:5
 is-between-requires : tie.Need-is-between-requires
 is-between-requires c κs = search needs
 
--- src/lib.rt:74:1
 returns-3 : tie.Need-returns-3
 unfolding spanOk
-returns-3 c = c .is-between .ensures ∙ rw (le-leb _ _ (c .before .before .before .before .before .if1 .left), le-leb _ _ (c .before .before .if2 .left))
+returns-3 c =
+    let c5 = c .before .before .before .before .before in
+    c .is-between .ensures ∙ rw (le-leb _ _ (c5 .if1 .left), le-leb _ _ (c .before .before .if2 .left))
 
 pub span-ok-spec : {M : Type 1} → statement M
 span-ok-spec =

@@ -1,20 +1,17 @@
 use lib.ListN.{replicate}
-use Rattle.tables.specs.Names.{emptyTables}
 use borrow.Author.Needs.{needs}
+use Rattle.tables.specs.Names.{emptyTables}
 use Rattle.step.proofs.empty_tables.Statement.{statement}
 use Rattle.step.proofs.empty_tables.Tie as tie
 use Rattle.tables.proofs.Entry.none.Reads as none-reads
 use Rattle.tables.proofs.Ticket.free.Reads as free-reads
 
--- src/lib.rt:30:9
 free-requires : tie.Need-free-requires
 free-requires c κs = search needs
 
--- src/lib.rt:38:9
 none-requires : tie.Need-none-requires
 none-requires c κs = search needs
 
--- src/lib.rt:27:1
 returns : tie.Need-returns
 unfolding emptyTables
 returns c = λ i. record {

@@ -30,9 +30,14 @@ loop-less c = omega arith
 
 loop-again : tie.Need-loop-again Inv-loop μ-loop
 loop-again c =
-    let h = c .before .before in (
+    let c2 = c .before .before in
+    let c3 = c2 .before in (
       omega arith,
-      (simp length-set (omega arith), rw (h .loop .inv .1 .1) (front-more (h .loop .i) (h .before .args .from .now) (replicate 64 0) 0 (omega arith))),
+      (
+        simp length-set (omega arith),
+        rw (c2 .loop .inv .1 .1)
+            (front-more (c2 .loop .i) (c3 .args .from .now) (replicate 64 0) 0 (omega arith)),
+      ),
     )
 
 returns : tie.Need-returns Inv-loop μ-loop

@@ -29,8 +29,10 @@ same-length c = search needs
 
 returns : tie.Need-returns
 returns c =
-    let a = c .before .before .before .before .before .before .args in
-    put-back (a .store .now) (a .sheet) (64 * a .sheet + 64 - 64 * a .sheet) (a .buffer .now) _ (c .before .before .copy .ensures) (omega arith)
+    let c6 = c .before .before .before .before .before .before in
+    let a = c6 .args in
+    put-back (a .store .now) (a .sheet) (64 * a .sheet + 64 - 64 * a .sheet) (a .buffer .now) _ (c .before .before .copy .ensures)
+    (omega arith)
 
 pub write-sheet-spec : {M : Type 1} → statement M
 write-sheet-spec =

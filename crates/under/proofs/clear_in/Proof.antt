@@ -1,13 +1,13 @@
 -- The first i tickets have been looked at.
 use Prim.Native.Nat.{_+_, _-_, _*_, _≤_}
-use mathlib.Core.Path.{_≡_, _∙_}
 use native.Mathlib.Omega.{arith}
-use borrow.Author.Needs.{needs}
+use mathlib.Core.Path.{_≡_, _∙_}
 use lib.ListN.{getD}
+use borrow.Author.Needs.{needs}
 use Rattle.tables.specs.Names.{free}
 use Rattle.tables.proofs.Fits.{program-fits}
 use Rattle.pads.proofs.Steps.{changed, changed-none, changed-more, changed-kept, changed-all}
-use Rattle.under.specs.Places.{goes, clearAt, clearIn}
+use Rattle.under.specs.Cleared.{goes, clearAt, clearIn}
 use Rattle.under.proofs.Steps.{clear-gone, clear-kept}
 use Rattle.under.proofs.clear_in.Statement.{statement}
 use Rattle.under.proofs.clear_in.Tie as tie
@@ -53,30 +53,44 @@ loop-less : tie.Need-loop-less Inv-loop μ-loop
 loop-less c = search needs
 
 loop-again : tie.Need-loop-again Inv-loop μ-loop
-loop-again c = let a = c .before .before .before .before .before .before .before .args in
+loop-again c =
+    let c1 = c .before in
+    let c4 = c1 .before .before .before in
+    let c5 = c4 .before in
+    let c7 = c5 .before .before in
+    let a = c7 .args in
     let gone = goes (a .up .now) (a .also) (a .x) in (
       omega arith,
-      changed-more (λ j. clearAt gone (8 * a .program + j)) (a .p) (c .before .before .before .before .loop .q) (c .before .before .before .before .loop .i) (c .before .before .before .before .before .free .result) (c .before .before .before .before .loop .inv .1)
-          (c .before .before .before .before .before .free .ensures ∙ clear-gone gone (8 * a .program + c .before .before .before .before .loop .i) (getD (c .before .before .before .before .loop .q .tickets) (c .before .before .before .before .loop .i) free) (c .before .has-to-go .result) (c .before .has-to-go .ensures) (c .if1 .taken)),
+      changed-more (λ j. clearAt gone (8 * a .program + j)) (a .p) (c4 .loop .q) (c4 .loop .i) (c5 .free .result)
+          (c4 .loop .inv .1)
+          (c5 .free .ensures ∙ clear-gone gone (8 * a .program + c4 .loop .i) (getD (c4 .loop .q .tickets) (c4 .loop .i) free)
+          (c1 .has-to-go .result) (c1 .has-to-go .ensures) (c .if1 .taken)),
     )
 
 loop-less-2 : tie.Need-loop-less-2 Inv-loop μ-loop
 loop-less-2 c = search needs
 
 loop-again-2 : tie.Need-loop-again-2 Inv-loop μ-loop
-loop-again-2 c = let a = c .before .before .before .before .before .before .before .args in
+loop-again-2 c =
+    let c1 = c .before in
+    let c4 = c1 .before .before .before in
+    let c7 = c4 .before .before .before in
+    let a = c7 .args in
     let gone = goes (a .up .now) (a .also) (a .x) in (
       omega arith,
-      changed-kept (λ j. clearAt gone (8 * a .program + j)) (a .p) (c .before .before .before .before .loop .q) (c .before .before .before .before .loop .i) (c .before .before .before .before .loop .inv .1)
-          (clear-kept gone (8 * a .program + c .before .before .before .before .loop .i) (getD (c .before .before .before .before .loop .q .tickets) (c .before .before .before .before .loop .i) free) (c .before .has-to-go .result) (c .before .has-to-go .ensures) (c .if1 .left)),
+      changed-kept (λ j. clearAt gone (8 * a .program + j)) (a .p) (c4 .loop .q) (c4 .loop .i) (c4 .loop .inv .1)
+          (clear-kept gone (8 * a .program + c4 .loop .i) (getD (c4 .loop .q .tickets) (c4 .loop .i) free) (c1 .has-to-go .result)
+          (c1 .has-to-go .ensures) (c .if1 .left)),
     )
 
 returns : tie.Need-returns Inv-loop μ-loop
 unfolding clearIn
-returns c = let s = c .before .before .before .before in
-    let a = s .args in
-    changed-all (λ j. clearAt (goes (a .up .now) (a .also) (a .x)) (8 * a .program + j)) (a .p) (c .before .loop .q) (c .before .loop .i) (c .before .loop .inv .1)
-    (omega (arith, program-fits (a .p) (_, s .good .0) .long))
+returns c =
+    let c1 = c .before in
+    let c4 = c1 .before .before .before in
+    let a = c4 .args in
+    changed-all (λ j. clearAt (goes (a .up .now) (a .also) (a .x)) (8 * a .program + j)) (a .p) (c1 .loop .q) (c1 .loop .i)
+    (c1 .loop .inv .1) (omega (arith, program-fits (a .p) (_, c4 .good .0) .long))
 
 pub clear-in-spec : {M : Type 1} → statement M
 clear-in-spec =

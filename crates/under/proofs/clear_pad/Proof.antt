@@ -1,10 +1,10 @@
 -- The first b programs have been looked at.
 use Prim.Native.Nat.{_-_, _≤_}
-use mathlib.Core.Path.{_≡_}
 use native.Mathlib.Omega.{arith}
+use mathlib.Core.Path.{_≡_}
 use borrow.Author.Needs.{needs}
 use Rattle.tables.proofs.Fits.{pad-fits}
-use Rattle.under.specs.Places.{goes, clearIn, clearPad}
+use Rattle.under.specs.Cleared.{goes, clearIn, clearPad}
 use Rattle.under.proofs.Steps.{padded, padded-none, padded-more, padded-all}
 use Rattle.under.proofs.clear_pad.Statement.{statement}
 use Rattle.under.proofs.clear_pad.Tie as tie
@@ -41,14 +41,23 @@ loop-less : tie.Need-loop-less Inv-loop μ-loop
 loop-less c = search needs
 
 loop-again : tie.Need-loop-again Inv-loop μ-loop
-loop-again c = let a = c .before .before .before .before .before .args in
-    (omega arith, padded-more (clearIn (goes (a .up .now) (a .also) (a .x))) (a .p) (c .before .before .before .loop .u) (c .before .before .before .loop .b) (c .clear-in .result) (c .before .before .before .loop .inv .1) (c .clear-in .ensures))
+loop-again c =
+    let c3 = c .before .before .before in
+    let c5 = c3 .before .before in
+    let a = c5 .args in (
+      omega arith,
+      padded-more (clearIn (goes (a .up .now) (a .also) (a .x))) (a .p) (c3 .loop .u) (c3 .loop .b) (c .clear-in .result)
+          (c3 .loop .inv .1) (c .clear-in .ensures),
+    )
 
 returns : tie.Need-returns Inv-loop μ-loop
 unfolding clearPad
-returns c = let s = c .before .before .before in
-    let a = s .args in
-    padded-all (clearIn (goes (a .up .now) (a .also) (a .x))) (a .p) (c .before .loop .u) (c .before .loop .b) (c .before .loop .inv .1) (omega (arith, pad-fits (a .p) (_, s .good .0) .long))
+returns c =
+    let c1 = c .before in
+    let c3 = c1 .before .before in
+    let a = c3 .args in
+    padded-all (clearIn (goes (a .up .now) (a .also) (a .x))) (a .p) (c1 .loop .u) (c1 .loop .b) (c1 .loop .inv .1)
+    (omega (arith, pad-fits (a .p) (_, c3 .good .0) .long))
 
 pub clear-pad-spec : {M : Type 1} → statement M
 clear-pad-spec =

@@ -1,53 +1,46 @@
 use mathlib.Core.Path.{_∙_}
 use borrow.Author.Tests.{le-leb, lt-leb}
-use Rattle.tables.specs.Sheets.{inside}
 use borrow.Author.Needs.{needs}
+use Rattle.tables.specs.Sheets.{inside}
 use Rattle.rules.proofs.Span.is_inside.Statement.{statement}
 use Rattle.rules.proofs.Span.is_inside.Tie as tie
 use Rattle.rights.proofs.Rights.contains.Reads as contains-reads
 
--- src/lib.rt:38:13
 returns : tie.Need-returns
 unfolding inside
 returns c = rw (lt-leb _ _ (c .if1 .taken))
 
--- src/lib.rt:40:19
 cast-end : tie.Need-cast-end
 cast-end c = search needs
 
--- src/lib.rt:40:41
 cast-end-2 : tie.Need-cast-end-2
 cast-end-2 c = search needs
 
--- src/lib.rt:40:19
 add-end : tie.Need-add-end
 add-end c = search needs
 
--- src/lib.rt:41:20
 cast-last : tie.Need-cast-last
 cast-last c = search needs
 
--- src/lib.rt:41:43
 cast-last-2 : tie.Need-cast-last-2
 cast-last-2 c = search needs
 
--- src/lib.rt:41:20
 add-last : tie.Need-add-last
 add-last c = search needs
 
--- src/lib.rt:43:13
 returns-2 : tie.Need-returns-2
 unfolding inside
 returns-2 c = rw (le-leb _ _ (c .before .before .before .before .before .if1 .left), lt-leb _ _ (c .if2 .taken))
 
--- src/lib.rt:47:9
 contains-requires : tie.Need-contains-requires
 contains-requires c κs = search needs
 
--- src/lib.rt:34:5
 returns-3 : tie.Need-returns-3
 unfolding inside
-returns-3 c = c .contains .ensures ∙ rw (le-leb _ _ (c .before .before .before .before .before .before .before .before .if1 .left), le-leb _ _ (c .before .before .before .if2 .left))
+returns-3 c =
+    let c3 = c .before .before .before in
+    let c8 = c3 .before .before .before .before .before in
+    c .contains .ensures ∙ rw (le-leb _ _ (c8 .if1 .left), le-leb _ _ (c3 .if2 .left))
 
 pub is-inside-spec : {M : Type 1} → statement M
 is-inside-spec =

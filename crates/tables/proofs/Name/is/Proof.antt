@@ -1,6 +1,6 @@
 use mathlib.Core.Path.{_≡_}
-use borrow.Author.Tests.{eq-eqb, ne-eqb}
 use lib.Dec.{eqb}
+use borrow.Author.Tests.{eq-eqb, ne-eqb}
 use Rattle.tables.specs.declared.Name.{Name}
 use Rattle.tables.specs.Names.{eqName}
 use Rattle.tables.proofs.Name.is.Statement.{statement}

@@ -1,14 +1,14 @@
 use Prim.Native.Nat.{ℕ}
 use mathlib.Core.Path.{_≡_, sym, _∙_}
 use mathlib.Core.Bool.{true}
+use lib.Dec.{eqb}
 use borrow.Author.Needs.{needs}
 use borrow.Author.Tests.{not-true, not-false}
-use lib.Dec.{eqb}
 use Rattle.tables.specs.declared.Ticket.{Ticket}
-use Rattle.tables.specs.Kinds.{isLive}
 use Rattle.tables.specs.Lookup.{hasNumber}
 use Rattle.tables.proofs.Ticket.has_number.Statement.{statement}
 use Rattle.tables.proofs.Ticket.has_number.Tie as tie
+use Rattle.tables.specs.Kinds.{isLive}
 
 of-live : (k : Ticket) (n : ℕ) → isLive (k .kind) ≡ true → eqb (k .number) n ≡ hasNumber n k
 unfolding hasNumber

@@ -1,0 +1,5 @@
+pub mod DirectlyBelow
+pub mod Reaching
+pub mod Queue
+pub mod Turns
+pub mod Laws

@@ -1,0 +1,2 @@
+mod Children
+mod Heads

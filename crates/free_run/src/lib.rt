@@ -1,0 +1,63 @@
+// The lowest run of sheets that no entry has.
+ghost use mathlib.Core.Path.{_≡_};
+ghost use Prim.Native.Nat.{_≤_};
+ghost use Rattle.tables.specs.Sheets.{lowestRun};
+ghost use Rattle.free_run.specs.Ends.{further, noteEnd, noteEnds};
+use tables::Entry;
+
+fn furthest(a: u32, b: u32) -> u32
+    ensures { λ r. ⌜ r ≡ further a b ⌝ }
+{
+    if a < b {
+        return b;
+    }
+    a
+}
+
+// Where the entry ends is kept at the sheet where it begins, unless another that begins there ends further.
+fn note_end(ends: &mut [u32; 256], e: Entry)
+    ensures { λ r. ⌜ now (ends .exit) ≡ noteEnd e (now (ends .entry)) ⌝ }
+{
+    if !e.live {
+        return;
+    }
+    let first = e.first as usize;
+    if 256 <= first {
+        return;
+    }
+    let end = e.first as u32 + e.count as u32;
+    let old = ends[first];
+    ends[first] = furthest(old, end);
+}
+
+fn note_ends(ends: &mut [u32; 256], es: [Entry; 256])
+    ensures { λ r. ⌜ now (ends .exit) ≡ noteEnds es (now (ends .entry)) ⌝ }
+{
+    let mut i: usize = 0;
+    while i < 256 {
+        let e = es[i];
+        i = i + 1;
+        note_end(ends, e);
+    }
+}
+
+// The first sheet of the lowest run of `count` sheets outside all entries, or 256. One pass over the entries, one over the sheets: `start`
+// is where the furthest of the entries that begin below s ends, and no free run begins below it.
+pub fn lowest_run(es: [Entry; 256], count: usize) -> usize
+    requires { ⌜ (1 ≤ count) × (count ≤ 256) ⌝ }
+    ensures { λ r. ⌜ r ≡ lowestRun es count ⌝ }
+{
+    let mut ends = [0u32; 256];
+    note_ends(&mut ends, es);
+    let mut start: u32 = 0;
+    let mut s: usize = 0;
+    while s < 256 {
+        let end = ends[s];
+        s = s + 1;
+        start = furthest(start, end);
+        if s == start as usize + count {
+            return start as usize;
+        }
+    }
+    s
+}

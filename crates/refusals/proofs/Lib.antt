@@ -1,0 +1,2 @@
+pub mod PassTests
+pub mod AccessTests

@@ -1,0 +1,104 @@
+// The refusals of pass, read and write, decided from what was found.
+ghost use mathlib.Core.Path.{_≡_};
+ghost use mathlib.Core.Bool.{not, _&&_};
+ghost use lib.Dec.{eqb};
+ghost use Rattle.tables.specs.declared.Tables.{Tables};
+ghost use Rattle.tables.specs.Names.{sameProgram};
+ghost use Rattle.tables.specs.Lookup.{entryOf};
+ghost use Rattle.machine.specs.declared.Request.{Request};
+ghost use Rattle.machine.specs.State.{asked};
+ghost use Rattle.machine.specs.Pass.{passRefusal};
+ghost use Rattle.machine.specs.Access.{accessRefusal};
+ghost use Rattle.refusals.specs.Found.{Found};
+use machine::Request;
+use rights::Rights;
+use tables::Entry;
+use tables::Program;
+use tables::Ticket;
+
+fn is_to_itself(r: Request) -> bool
+    ensures { λ b. ⌜ b ≡ sameProgram (r .pad) (r .program) (r .topad) (r .toprogram) ⌝ }
+{
+    if r.pad != r.topad {
+        return false;
+    }
+    r.program == r.toprogram
+}
+
+// To another pad, and the dock has no entry of the ticket's dock name.
+fn lacks_entry(e: Entry, r: Request) -> bool
+    ensures { λ b. ⌜ b ≡ (not (eqb (r .pad) (r .topad)) && not (e .live)) ⌝ }
+{
+    if r.pad == r.topad {
+        return false;
+    }
+    !e.live
+}
+
+// A pass: 4, 5, 8, 6, 7, 9, 10, 12 or 0, from the ticket asked for, the programs of asker and recipient, and the entry of the ticket's dock name.
+pub fn pass(k: Ticket, p: Program, q: Program, e: Entry, r: Request) -> u16
+    ensures { λ n. ⌜ ((t : Tables) → Found t r k p q e → n ≡ passRefusal t r) ⌝ }
+{
+    let kind = k.kind;
+    if !kind.is_live() {
+        return 4;
+    }
+    if kind.is_recall() {
+        return 5;
+    }
+    if is_to_itself(r) {
+        return 8;
+    }
+    if (k.count as usize) < r.first as usize + r.count as usize {
+        return 6;
+    }
+    let held = k.rights;
+    if !held.can_pass() {
+        return 7;
+    }
+    let asked = Rights::make(r.rights);
+    if !held.contains(asked) {
+        return 7;
+    }
+    let here = pads::free_place(p);
+    if 8 <= here {
+        return 9;
+    }
+    let there = pads::free_place(q);
+    if 8 <= there {
+        return 9;
+    }
+    if 65535 <= p.last {
+        return 10;
+    }
+    if 65535 <= q.last {
+        return 10;
+    }
+    if lacks_entry(e, r) {
+        return 12;
+    }
+    0
+}
+
+// A read (right 1) or write (right 2): 4, 5, 6, 7, then what the dock says. `k` is the ticket asked for, `e` the entry of its dock name.
+pub fn access(k: Ticket, e: Entry, first: u16, right: u16) -> u16
+    ensures { λ n. ⌜ ((t : Tables) (r : Request) → asked t r ≡ k → entryOf t (k .dock) ≡ e → r .first ≡ first → n ≡ accessRefusal right t r) ⌝ }
+{
+    let kind = k.kind;
+    if !kind.is_live() {
+        return 4;
+    }
+    if kind.is_recall() {
+        return 5;
+    }
+    if k.count <= first {
+        return 6;
+    }
+    let held = k.rights;
+    let needed = Rights::make(right);
+    if !held.contains(needed) {
+        return 7;
+    }
+    let sheet = k.first as usize + first as usize;
+    dock::check(e, sheet, right)
+}

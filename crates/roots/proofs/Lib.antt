@@ -1,0 +1,2 @@
+mod Marking
+mod Roots

@@ -1,4 +1,0 @@
-mod Numbers
-mod Children
-mod Heads
-mod Programs
