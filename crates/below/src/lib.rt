@@ -6,7 +6,7 @@ ghost use Rattle.below.specs.Links.{directlyBelow, LinkedEntries, withou
 use tables::Entry;
 use tables::Name;
 
-// The place of the entry of a name, or 256.
+// The place of the entry of a name, or 256. `dock::entry_in` is not asked by it: that would copy all entries once more.
 fn place_of(es: [Entry; 256], n: Name) -> usize
     ensures { λ r. ⌜ r ≡ firstIndex (isNamed n) es ⌝ }
 {

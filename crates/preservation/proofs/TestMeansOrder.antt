@@ -8,22 +8,22 @@ use lib.Dec.{eqb}
 use lib.ListN.{length}
 use borrow.Author.Tests.{eqb-true, eqb-false, eq-eqb, ne-eqb, not-true, not-false}
 use Rattle.lists.specs.Tests.{implies, between}
-use Rattle.lists.specs.Lists.{firstIndex, all, noTwo}
+use Rattle.lists.specs.Lists.{firstIndex, noTwo}
 use Rattle.lists.proofs.Tests.{and-l, and-r, and-intro, not-test, implies-elim, between-low, between-high}
 use Rattle.lists.proofs.Everywhere.{all-elim}
 use Rattle.lists.proofs.Keyed.{Distinct, distinct-intro, no-two-keys}
 use Rattle.rights.specs.Rules.{canPass}
 use Rattle.rights.proofs.Rules.{rights-eq}
 use Rattle.tables.specs.declared.{Name.Name, Ticket.Ticket, Entry.Entry, Tables.Tables}
-use Rattle.tables.specs.Names.{noName, eqName, isProgram, free, noProgram, noPad}
-use Rattle.tables.specs.Lookup.{Sized, padAt, programAt, ticketsOf, lastOf, hasNumber, ticketIn, lookup, isNamed, entryIn, entryOf}
+use Rattle.tables.specs.Names.{noName, eqName, isProgram, free}
+use Rattle.tables.specs.Lookup.{Sized, ticketsOf, lastOf, hasNumber, ticketIn, lookup, isNamed, entryIn, entryOf}
 use Rattle.tables.specs.Chains.{ownName, parentOf, chainHead, entryParent, chainRoot}
 use Rattle.tables.specs.Sheets.{apart, inside}
 use Rattle.tables.specs.Order.{everyTicket, someTicket, everyEntry, numbersOk, t1, spanOk, t2, parentOk, childOk, t3, t4, entryNamesOk, underStore, grantOk, parentEntryOk, entryOk, rootsOk, t5, recallParentOk, isChildOf, farTargetOk, targetOk, recallOk, t6, inOrder, noFarChild}
 use Rattle.tables.proofs.KindLaws.{live-grant, live-child, live-recall, live-head, live-taken}
 use Rattle.tables.proofs.NameLaws.{eqName-true, eqName-test, is-program}
 use Rattle.tables.proofs.Keys.{ticketKeys, entryKeys, ticketLaws, entryLaws}
-use Rattle.tables.proofs.ByPlace.{ticketAt, place-low, found-number, name-in-range, every-entry-elim, found-name}
+use Rattle.tables.proofs.ByPlace.{ticketAt, place-low, found-number, name-in-range, every-entry-elim, found-name, numbers-at}
 use Rattle.preservation.specs.Rules.{Apart, Given, ChildOk, RecallOk, NearOk, FarOk, Recalled, EntryOk, UnderOk, NoFarChild}
 use Rattle.preservation.specs.InOrder.{Shape, InOrder}
 use Rattle.preservation.proofs.SheetTests.{inside-of, span-of, apart-of, apart-sym}
@@ -134,15 +134,9 @@ module _ (t : Tables) (z : Sized t) (test : inOrder t ≡ true) where
   rule6-children = search (and-l, and-r) depth 8
 
   -- ---- T1
-  numbers : (p q : ℕ) → p < 4 → q < 8 → numbersOk (programAt t p q) ≡ true
-  unfolding t1
-  numbers p q b c =
-      all-elim noProgram numbersOk (padAt t p .programs)
-      (all-elim noPad (λ a. all numbersOk (a .programs)) (t .pads) rule1 p (rw (z .pads) b)) q (rw (z .programs p b) c)
-
   distinct : (p q : ℕ) → p < 4 → q < 8 → Distinct ticketKeys (ticketsOf t p q)
   unfolding numbersOk
-  distinct p q b c = distinct-intro ticketKeys ticketLaws (ticketsOf t p q) (and-l (noTwo _ _ (ticketsOf t p q)) _ (numbers p q b c))
+  distinct p q b c = distinct-intro ticketKeys ticketLaws (ticketsOf t p q) (and-l (noTwo _ _ (ticketsOf t p q)) _ (numbers-at t z rule1 b c))
 
   numbered : (p q i : ℕ) → p < 4 → q < 8 → i < length (ticketsOf t p q) → isLive (ticketAt t p q i .kind) ≡ true
       → between 1 (lastOf t p q) (ticketAt t p q i .number) ≡ true
@@ -150,7 +144,7 @@ module _ (t : Tables) (z : Sized t) (test : inOrder t ≡ true) where
   numbered p q i b c d =
       implies-elim (isLive (ticketAt t p q i .kind)) _
       (all-elim free (λ k. implies (isLive (k .kind)) (between 1 (lastOf t p q) (k .number))) (ticketsOf t p q)
-      (and-r (noTwo (λ k. isLive (k .kind)) (λ k other. eqb (k .number) (other .number)) (ticketsOf t p q)) _ (numbers p q b c)) i d)
+      (and-r (noTwo (λ k. isLive (k .kind)) (λ k other. eqb (k .number) (other .number)) (ticketsOf t p q)) _ (numbers-at t z rule1 b c)) i d)
 
   distinct-entries : Distinct entryKeys (t .entries)
   unfolding entryNamesOk

@@ -13,11 +13,7 @@ use Rattle.lists.proofs.Everywhere.{allAt-intro, allAt-elim}
 use Rattle.lists.proofs.Front.{front, front-more}
 use Rattle.tables.specs.declared.{Name.Name, Ticket.Ticket}
 use Rattle.tables.specs.Names.{free}
-use Rattle.tables.proofs.Fits.{Owned, array-long}
-use Rattle.tables.proofs.Ticket as ticket
-use Rattle.index.specs.declared.Flat.{Flat}
 use Rattle.index.specs.Places.{placeIn}
-use Rattle.index.proofs.Flat as flat
 use Rattle.recall_marks.specs.Keys.{keyOf, targetKey, childMarked}
 use Rattle.tables.specs.Kinds.{isChild, isRecall}
 
@@ -46,9 +42,6 @@ pub getD-mapped : {A B : Type 0} (g : A → B) (l : List A) (i : ℕ) (d : A) (e
 getD-mapped g [] i d e h = absurd (omega arith)
 getD-mapped g (x ∷ xs) zero d e h = refl
 getD-mapped g (x ∷ xs) (suc i) d e h = getD-mapped g xs i d e (omega arith)
-
-pub flat-long : (f : Flat) → Owned flat.the-field f → length (f .tickets) ≡ 256
-flat-long f o = array-long ticket.the-field 256 (f .tickets) (_, o .1 .1 .1 .0)
 
 module _ (g : Ticket → ℕ) (ks : List Ticket) where
   pub written : (now before : List ℕ) (i x : ℕ) → i < length ks → x ≡ g (getD ks i free)

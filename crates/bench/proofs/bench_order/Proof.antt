@@ -2,9 +2,6 @@ use Prim.Native.Nat.{_-_, _≤_}
 use borrow.Author.Needs.{needs}
 use Rattle.bench.proofs.bench_order.Statement.{statement}
 use Rattle.bench.proofs.bench_order.Tie as tie
-use Rattle.bench.proofs.filled.Reads as filled-reads
-use Rattle.order.proofs.in_order.Reads as in-order-reads
-use Rattle.step.proofs.empty.Reads as empty-reads
 
 abbrev Inv-loop : tie.InvT-loop
 Inv-loop full n t accepted₀ i₀ accepted i = ((i ≤ n) × (accepted ≤ i))

@@ -5,10 +5,6 @@ use borrow.Author.Needs.{needs}
 use borrow.Author.Tests.{not-false}
 use Rattle.bench.proofs.bench_serve.Statement.{statement}
 use Rattle.bench.proofs.bench_serve.Tie as tie
-use Rattle.bench.proofs.asked.Reads as asked-reads
-use Rattle.bench.proofs.filled.Reads as filled-reads
-use Rattle.order.proofs.in_order.Reads as in-order-reads
-use Rattle.serve.proofs.request.Reads as request-reads
 
 abbrev Inv-loop : tie.InvT-loop
 Inv-loop op n store₀ sheet₀ t r accepted₀ i₀ store sheet accepted i = ((i ≤ n) × (accepted ≤ i)) × ((length store ≡ 16384) × (length sheet ≡ 64))

@@ -4,9 +4,6 @@ use lib.ListN.{length}
 use borrow.Author.Needs.{needs}
 use Rattle.bench.proofs.bench_step.Statement.{statement}
 use Rattle.bench.proofs.bench_step.Tie as tie
-use Rattle.bench.proofs.asked.Reads as asked-reads
-use Rattle.bench.proofs.filled.Reads as filled-reads
-use Rattle.step.proofs.step.Reads as step-reads
 
 abbrev Inv-loop : tie.InvT-loop
 Inv-loop op n store₀ sheet₀ t r accepted₀ i₀ store sheet accepted i = ((i ≤ n) × (accepted ≤ i)) × ((length store ≡ 16384) × (length sheet ≡ 64))

@@ -4,9 +4,6 @@ use lib.ListN.{length}
 use borrow.Author.Needs.{needs}
 use Rattle.bench.proofs.filled.Statement.{statement}
 use Rattle.bench.proofs.filled.Tie as tie
-use Rattle.bench.proofs.filling.Reads as filling-reads
-use Rattle.step.proofs.empty.Reads as empty-reads
-use Rattle.step.proofs.step.Reads as step-reads
 
 abbrev Inv-loop : tie.InvT-loop
 Inv-loop store₀ sheet₀ t₀ i₀ store sheet t i =

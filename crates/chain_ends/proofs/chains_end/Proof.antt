@@ -7,9 +7,6 @@ use borrow.Author.Tests.{not-true, not-false}
 use Rattle.chain_ends.proofs.Settling.{Walked, walked-none, walked-skip, walked-more, walked-bad, walked-all}
 use Rattle.chain_ends.proofs.chains_end.Statement.{statement}
 use Rattle.chain_ends.proofs.chains_end.Tie as tie
-use Rattle.chain_ends.proofs.chains_end.Reads as reads
-use Rattle.chain_ends.proofs.chains_end.Lts as lts
-use Rattle.chain_ends.proofs.settle.Reads as settle-reads
 
 abbrev Inv-loop : tie.InvT-loop
 Inv-loop up₀ i₀ up i = (i ≤ 256) × ((length up ≡ length up₀) × Walked up₀ i up)

@@ -4,8 +4,6 @@ use borrow.Author.Needs.{needs}
 use Rattle.child_order.proofs.Heads.{parents-say, parents-missing, heads-decide}
 use Rattle.child_order.proofs.chains_ok.Statement.{statement}
 use Rattle.child_order.proofs.chains_ok.Tie as tie
-use Rattle.child_order.proofs.children_ok.Reads as children-ok-reads
-use Rattle.child_order.proofs.heads_ok.Reads as heads-ok-reads
 
 slice-aggregate-children-ok : tie.Need-slice-aggregate-children-ok
 slice-aggregate-children-ok c = search needs

@@ -15,9 +15,6 @@ use Rattle.child_order.specs.Parts.{childOk, childrenOk}
 use Rattle.child_order.proofs.Children.{upOf, no-child, no-child-up, no-parent, by-parent, parent-up}
 use Rattle.child_order.proofs.children_ok.Statement.{statement}
 use Rattle.child_order.proofs.children_ok.Tie as tie
-use Rattle.index.proofs.place_of.Reads as place-of-reads
-use Rattle.rules.proofs.parent_ok.Reads as parent-ok-reads
-use Rattle.tables.proofs.Kind.is_child.Reads as is-child-reads
 
 abbrev Inv-loop : tie.InvT-loop
 Inv-loop numbers up₀ f i₀ up i =

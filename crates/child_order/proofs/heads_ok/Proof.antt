@@ -16,8 +16,6 @@ use Rattle.child_order.proofs.Children.{head-missed, head-found, no-hea
 use Rattle.child_order.proofs.heads_ok.Statement.{statement}
 use Rattle.child_order.proofs.heads_ok.Tie as tie
 use Rattle.tables.specs.Kinds.{isChild}
-use Rattle.chains.proofs.end_from.Reads as end-from-reads
-use Rattle.tables.proofs.Kind.is_child.Reads as is-child-reads
 
 abbrev Inv-loop : tie.InvT-loop
 Inv-loop up f i₀ i = (i ≤ 256) × ((j : ℕ) → j < i → implies (isChild (getD (f .tickets) j free .kind)) (ltb (endFrom 64 up j) 256) ≡ true)

@@ -10,10 +10,6 @@ use Rattle.index.proofs.Laying.{flat-long}
 use Rattle.entry_notes.proofs.Noting.{SoFar, has-at, has-none, noted-none, noted-skip, noted-bad, noted-twice, noted-more, noted-end}
 use Rattle.entry_notes.proofs.note_entries.Statement.{statement}
 use Rattle.entry_notes.proofs.note_entries.Tie as tie
-use Rattle.entry_notes.proofs.note_entries.Reads as reads
-use Rattle.entry_notes.proofs.note_entries.Lts as lts
-use Rattle.index.proofs.place_of.Reads as place-of-reads
-use Rattle.rules.proofs.grant_ok.Reads as grant-ok-reads
 
 abbrev Inv-loop : tie.InvT-loop
 Inv-loop numbers notes₀ f es i₀ notes i = (i ≤ 256) × SoFar (f .tickets) numbers es i notes

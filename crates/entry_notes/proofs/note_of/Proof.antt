@@ -3,9 +3,6 @@ use borrow.Author.Needs.{needs}
 use Rattle.entry_notes.proofs.NoteSteps.{note-none, note-here}
 use Rattle.entry_notes.proofs.note_of.Statement.{statement}
 use Rattle.entry_notes.proofs.note_of.Tie as tie
-use Rattle.entry_notes.proofs.note_of.Reads as reads
-use Rattle.entry_notes.proofs.note_of.Lts as lts
-use Rattle.index.proofs.place_of.Reads as place-of-reads
 
 place-of-requires : tie.Need-place-of-requires
 place-of-requires c κs = search needs

@@ -4,13 +4,6 @@ use borrow.Author.Tests.{not-true, not-false}
 use Rattle.entry_order.proofs.Whole.{bad-notes, bad-links, bad-chains, bad-roots, last-part}
 use Rattle.entry_order.proofs.entries_ok.Statement.{statement}
 use Rattle.entry_order.proofs.entries_ok.Tie as tie
-use Rattle.entry_order.proofs.entries_ok.Reads as reads
-use Rattle.entry_order.proofs.entries_ok.Lts as lts
-use Rattle.entry_notes.proofs.note_entries.Reads as note-entries-reads
-use Rattle.chain_ends.proofs.chains_end.Reads as chains-end-reads
-use Rattle.entry_order.proofs.link_entries.Reads as link-entries-reads
-use Rattle.roots.proofs.roots_apart.Reads as roots-apart-reads
-use Rattle.entry_order.proofs.taken_ok.Reads as taken-ok-reads
 
 note-entries-requires : tie.Need-note-entries-requires
 note-entries-requires c κs = search needs

@@ -1,8 +1,6 @@
 use borrow.Author.Tests.{not-true, not-false}
 use Rattle.entry_order.proofs.is_hung.Statement.{statement}
 use Rattle.entry_order.proofs.is_hung.Tie as tie
-use Rattle.entry_order.proofs.is_hung.Reads as reads
-use Rattle.entry_order.proofs.is_hung.Lts as lts
 
 returns : tie.Need-returns
 returns c = rw (not-true (c .before .before .args .e .live) (c .if1 .taken))

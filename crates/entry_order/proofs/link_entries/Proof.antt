@@ -15,11 +15,6 @@ use Rattle.entry_order.specs.Parents.{hasParent, upOf}
 use Rattle.entry_order.proofs.Linking.{free-fits, free-up, hung-fits, hung-lost, hung-up, written, linked, not-linked}
 use Rattle.entry_order.proofs.link_entries.Statement.{statement}
 use Rattle.entry_order.proofs.link_entries.Tie as tie
-use Rattle.entry_order.proofs.link_entries.Reads as reads
-use Rattle.entry_order.proofs.link_entries.Lts as lts
-use Rattle.entry_order.proofs.is_hung.Reads as is-hung-reads
-use Rattle.entry_notes.proofs.note_of.Reads as note-of-reads
-use Rattle.rules.proofs.parent_entry_ok.Reads as parent-entry-ok-reads
 
 abbrev Inv-loop : tie.InvT-loop
 Inv-loop numbers notes up₀ es i₀ up i =

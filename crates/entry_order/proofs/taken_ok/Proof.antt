@@ -13,9 +13,6 @@ use Rattle.entry_order.specs.Order.{hasNote, takenNoted}
 use Rattle.entry_order.proofs.TakenSteps.{not-taken, taken-noted, taken-lost}
 use Rattle.entry_order.proofs.taken_ok.Statement.{statement}
 use Rattle.entry_order.proofs.taken_ok.Tie as tie
-use Rattle.entry_order.proofs.taken_ok.Reads as reads
-use Rattle.entry_order.proofs.taken_ok.Lts as lts
-use Rattle.tables.proofs.Kind.is_taken.Reads as is-taken-reads
 
 abbrev Inv-loop : tie.InvT-loop
 Inv-loop notes f i₀ i = (i ≤ 256) × ((j : ℕ) → j < i → hasNote notes j (getD (f .tickets) j free) ≡ true)

@@ -10,9 +10,6 @@ use Rattle.index.specs.Places.{placed}
 use Rattle.index.proofs.Laying.{at-place, at-last}
 use Rattle.index.proofs.flatten.Statement.{statement}
 use Rattle.index.proofs.flatten.Tie as tie
-use Rattle.index.proofs.flatten.Reads as reads
-use Rattle.index.proofs.flatten.Lts as lts
-use Rattle.tables.proofs.Ticket.free.Reads as free-reads
 
 abbrev lasts : Tables → ℕ → ℕ
 lasts t j = lastOf t (j / 8) (j % 8)

@@ -4,9 +4,6 @@ use borrow.Author.Needs.{needs}
 use Rattle.index.specs.Places.{numberOf}
 use Rattle.index.proofs.number_of.Statement.{statement}
 use Rattle.index.proofs.number_of.Tie as tie
-use Rattle.index.proofs.number_of.Reads as reads
-use Rattle.index.proofs.number_of.Lts as lts
-use Rattle.tables.proofs.Kind.is_live.Reads as is-live-reads
 
 is-live-requires : tie.Need-is-live-requires
 is-live-requires c κs = search needs

@@ -3,9 +3,6 @@ use borrow.Author.Needs.{needs}
 use Rattle.index.proofs.PlaceSteps.{no-pad, no-program, no-number, not-there, is-there, of-eight}
 use Rattle.index.proofs.place_of.Statement.{statement}
 use Rattle.index.proofs.place_of.Tie as tie
-use Rattle.index.proofs.place_of.Reads as reads
-use Rattle.index.proofs.place_of.Lts as lts
-use Rattle.chains.proofs.index_of.Reads as index-of-reads
 
 returns : tie.Need-returns
 returns c = no-pad (c .before .before .before .args .numbers .now) (c .before .before .before .args .n) (c .if1 .taken)

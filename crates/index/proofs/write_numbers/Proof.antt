@@ -9,9 +9,6 @@ use Rattle.index.specs.Places.{numberOf}
 use Rattle.index.proofs.Laying.{mapped-long, written}
 use Rattle.index.proofs.write_numbers.Statement.{statement}
 use Rattle.index.proofs.write_numbers.Tie as tie
-use Rattle.index.proofs.write_numbers.Reads as reads
-use Rattle.index.proofs.write_numbers.Lts as lts
-use Rattle.index.proofs.number_of.Reads as number-of-reads
 
 abbrev Inv-loop : tie.InvT-loop
 Inv-loop numbers₀ f i₀ numbers i =

@@ -5,8 +5,6 @@ use Rattle.tables.specs.declared.Ticket.{Ticket}
 use Rattle.order.proofs.has_child.Statement.{statement}
 use Rattle.order.proofs.has_child.Tie as tie
 use Rattle.tables.specs.Kinds.{isChild}
-use Rattle.pads.proofs.find.Reads as find-reads
-use Rattle.tables.proofs.Kind.is_child.Reads as is-child-reads
 
 find-requires : tie.Need-find-requires
 find-requires c κs = search needs

@@ -8,12 +8,6 @@ use Rattle.order.proofs.Numbered.{numbered}
 use Rattle.order.proofs.Rules.{programs-broken, chains-broken, entries-broken, rule-1, rule-2, last-rule}
 use Rattle.order.proofs.in_order.Statement.{statement}
 use Rattle.order.proofs.in_order.Tie as tie
-use Rattle.entry_order.proofs.entries_ok.Reads as entries-ok-reads
-use Rattle.index.proofs.flatten.Reads as flatten-reads
-use Rattle.index.proofs.write_numbers.Reads as write-numbers-reads
-use Rattle.recall_order.proofs.recalls_ok.Reads as recalls-ok-reads
-use Rattle.child_order.proofs.chains_ok.Reads as chains-ok-reads
-use Rattle.program_order.proofs.programs_ok.Reads as programs-ok-reads
 
 programs-ok-requires : tie.Need-programs-ok-requires
 programs-ok-requires c κs = search needs

@@ -5,7 +5,6 @@ use borrow.Author.Tests.{not-true, not-false}
 use Rattle.order.proofs.Far.{no-recall, no-pad, no-program, by-pad}
 use Rattle.order.proofs.is_far.Statement.{statement}
 use Rattle.order.proofs.is_far.Tie as tie
-use Rattle.tables.proofs.Kind.is_recall.Reads as is-recall-reads
 
 is-recall-requires : tie.Need-is-recall-requires
 is-recall-requires c κs = search needs

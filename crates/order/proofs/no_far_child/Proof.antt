@@ -11,9 +11,6 @@ use Rattle.tables.proofs.Fits.{tables-fit, tables-sized}
 use Rattle.order.proofs.Far.{Passes, far-program, no-child, not-far, all-pass, far-child}
 use Rattle.order.proofs.no_far_child.Statement.{statement}
 use Rattle.order.proofs.no_far_child.Tie as tie
-use Rattle.index.proofs.flatten.Reads as flatten-reads
-use Rattle.order.proofs.has_child.Reads as has-child-reads
-use Rattle.order.proofs.is_far.Reads as is-far-reads
 
 abbrev Inv-loop : tie.InvT-loop
 Inv-loop t f i₀ i = (i ≤ 256) × ((j : ℕ) → j < i → Passes t j (getD (f .tickets) j free))

@@ -10,7 +10,6 @@ use Rattle.tables.specs.Lookup.{hasNumber}
 use Rattle.tables.proofs.Fits.{program-fits}
 use Rattle.program_order.proofs.first_place.Statement.{statement}
 use Rattle.program_order.proofs.first_place.Tie as tie
-use Rattle.tables.proofs.Ticket.has_number.Reads as has-number-reads
 
 abbrev Inv-loop : tie.InvT-loop
 Inv-loop number q i₀ i = (i ≤ 8) × (firstIndex (hasNumber number) (q .tickets) ≡ i + firstIndex (hasNumber number) (drop i (q .tickets)))

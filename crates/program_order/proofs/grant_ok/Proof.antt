@@ -5,10 +5,6 @@ use Rattle.lists.specs.Tests.{implies}
 use Rattle.program_order.specs.Parts.{grantOk}
 use Rattle.program_order.proofs.grant_ok.Statement.{statement}
 use Rattle.program_order.proofs.grant_ok.Tie as tie
-use Rattle.rules.proofs.span_ok.Reads as span-ok-reads
-use Rattle.tables.proofs.Kind.is_grant.Reads as is-grant-reads
-use Rattle.tables.proofs.Kind.is_head.Reads as is-head-reads
-use Rattle.tables.proofs.Name.is.Reads as is-reads
 
 is-grant-requires : tie.Need-is-grant-requires
 is-grant-requires c κs = search needs

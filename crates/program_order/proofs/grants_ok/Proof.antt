@@ -12,7 +12,6 @@ use Rattle.tables.proofs.Fits.{program-fits}
 use Rattle.program_order.specs.Parts.{grantOk, grantsOk}
 use Rattle.program_order.proofs.grants_ok.Statement.{statement}
 use Rattle.program_order.proofs.grants_ok.Tie as tie
-use Rattle.program_order.proofs.grant_ok.Reads as grant-ok-reads
 
 abbrev Inv-loop : tie.InvT-loop
 Inv-loop pad program q i₀ i =

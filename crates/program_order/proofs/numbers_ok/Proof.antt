@@ -9,9 +9,6 @@ use Rattle.tables.proofs.Fits.{program-fits}
 use Rattle.program_order.proofs.Numbers.{NumberOk, numbers-pass, bad-range, bad-first}
 use Rattle.program_order.proofs.numbers_ok.Statement.{statement}
 use Rattle.program_order.proofs.numbers_ok.Tie as tie
-use Rattle.rules.proofs.is_between.Reads as is-between-reads
-use Rattle.tables.proofs.Kind.is_live.Reads as is-live-reads
-use Rattle.program_order.proofs.first_place.Reads as first-place-reads
 
 abbrev Inv-loop : tie.InvT-loop
 Inv-loop q i₀ i = (i ≤ 8) × ((j : ℕ) → j < i → NumberOk q j)

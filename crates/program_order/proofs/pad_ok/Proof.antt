@@ -14,8 +14,6 @@ use Rattle.tables.proofs.Fits.{pad-fits}
 use Rattle.program_order.specs.Parts.{grantsOk, padOk}
 use Rattle.program_order.proofs.pad_ok.Statement.{statement}
 use Rattle.program_order.proofs.pad_ok.Tie as tie
-use Rattle.program_order.proofs.grants_ok.Reads as grants-ok-reads
-use Rattle.program_order.proofs.numbers_ok.Reads as numbers-ok-reads
 
 abbrev Inv-loop : tie.InvT-loop
 Inv-loop pad p b₀ b =

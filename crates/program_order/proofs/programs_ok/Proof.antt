@@ -11,7 +11,6 @@ use Rattle.program_order.specs.Parts.{padOk}
 use Rattle.program_order.proofs.Programs.{pads-pass, pad-fails}
 use Rattle.program_order.proofs.programs_ok.Statement.{statement}
 use Rattle.program_order.proofs.programs_ok.Tie as tie
-use Rattle.program_order.proofs.pad_ok.Reads as pad-ok-reads
 
 abbrev Inv-loop : tie.InvT-loop
 Inv-loop t a₀ a = (a ≤ 4) × ((j : ℕ) → j < a → padOk j (padAt t j) ≡ true)

@@ -6,13 +6,11 @@ use lib.ListN.{getD}
 use borrow.Author.Needs.{needs}
 use borrow.Author.Count.{below-more}
 use Rattle.tables.specs.Names.{free}
+use Rattle.index.proofs.Laying.{flat-long}
 use Rattle.recall_marks.specs.Keys.{childMarked}
-use Rattle.recall_marks.proofs.KeySteps.{flat-long, Passed, passed-end, passed-not, child-ok, child-not, no-child}
+use Rattle.recall_marks.proofs.KeySteps.{Passed, passed-end, passed-not, child-ok, child-not, no-child}
 use Rattle.recall_marks.proofs.children_marked.Statement.{statement}
 use Rattle.recall_marks.proofs.children_marked.Tie as tie
-use Rattle.recall_marks.proofs.children_marked.Reads as reads
-use Rattle.recall_marks.proofs.children_marked.Lts as lts
-use Rattle.tables.proofs.Kind.is_child.Reads as is-child-reads
 
 abbrev Inv-loop : tie.InvT-loop
 Inv-loop marks f i₀ i = (i ≤ 256) × Passed (childMarked marks) (f .tickets) i

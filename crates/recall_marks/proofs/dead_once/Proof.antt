@@ -8,9 +8,6 @@ use borrow.Author.Needs.{needs}
 use Rattle.recall_marks.proofs.Seen.{Dead, dead-none, dead-skip, dead-more, dead-not, dead-end}
 use Rattle.recall_marks.proofs.dead_once.Statement.{statement}
 use Rattle.recall_marks.proofs.dead_once.Tie as tie
-use Rattle.recall_marks.proofs.dead_once.Reads as reads
-use Rattle.recall_marks.proofs.dead_once.Lts as lts
-use Rattle.recall_marks.proofs.has.Reads as has-reads
 
 abbrev Inv-loop : tie.InvT-loop
 Inv-loop keys dead₀ count₀ i₀ dead count i = (i ≤ 256) × Dead keys i count dead

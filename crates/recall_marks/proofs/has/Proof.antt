@@ -8,8 +8,6 @@ use borrow.Author.Count.{below-more}
 use Rattle.recall_marks.proofs.Seen.{has-here, has-none}
 use Rattle.recall_marks.proofs.has.Statement.{statement}
 use Rattle.recall_marks.proofs.has.Tie as tie
-use Rattle.recall_marks.proofs.has.Reads as reads
-use Rattle.recall_marks.proofs.has.Lts as lts
 
 abbrev Inv-loop : tie.InvT-loop
 Inv-loop numbers x i₀ i = (i ≤ length numbers) × ((j : ℕ) → j < i → getD numbers j 0 ≡ x → ⊥)

@@ -6,9 +6,6 @@ use borrow.Author.Needs.{needs}
 use Rattle.recall_marks.proofs.KeySteps.{deadKey, key-place, key-dead}
 use Rattle.recall_marks.proofs.key_of.Statement.{statement}
 use Rattle.recall_marks.proofs.key_of.Tie as tie
-use Rattle.recall_marks.proofs.key_of.Reads as reads
-use Rattle.recall_marks.proofs.key_of.Lts as lts
-use Rattle.chains.proofs.wide.Reads as wide-reads
 
 returns : tie.Need-returns
 returns c = key-place (c .before .args .place) (c .before .args .target) (c .if1 .taken)

@@ -5,8 +5,6 @@ use borrow.Author.Needs.{needs}
 use Rattle.recall_marks.proofs.Seen.{Marks, marks-none, marks-skip, marks-more, marks-not, marks-end}
 use Rattle.recall_marks.proofs.mark_places.Statement.{statement}
 use Rattle.recall_marks.proofs.mark_places.Tie as tie
-use Rattle.recall_marks.proofs.mark_places.Reads as reads
-use Rattle.recall_marks.proofs.mark_places.Lts as lts
 
 abbrev Inv-loop : tie.InvT-loop
 Inv-loop keys marks₀ i₀ marks i = (i ≤ 256) × Marks keys i marks

@@ -7,11 +7,6 @@ use Rattle.recall_marks.specs.Keys.{keyOf}
 use Rattle.recall_marks.proofs.KeySteps.{key-none, key-recall}
 use Rattle.recall_marks.proofs.target_key.Statement.{statement}
 use Rattle.recall_marks.proofs.target_key.Tie as tie
-use Rattle.recall_marks.proofs.target_key.Reads as reads
-use Rattle.recall_marks.proofs.target_key.Lts as lts
-use Rattle.index.proofs.place_of.Reads as place-of-reads
-use Rattle.recall_marks.proofs.key_of.Reads as key-of-reads
-use Rattle.tables.proofs.Kind.is_recall.Reads as is-recall-reads
 
 is-recall-requires : tie.Need-is-recall-requires
 is-recall-requires c κs = search needs

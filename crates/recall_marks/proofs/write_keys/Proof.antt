@@ -6,13 +6,11 @@ use mathlib.Core.List.{map}
 use lib.ListN.{length, length-set, length-map}
 use borrow.Author.Needs.{needs}
 use Rattle.lists.proofs.Front.{front, front-none, front-end}
+use Rattle.index.proofs.Laying.{flat-long}
 use Rattle.recall_marks.specs.Keys.{targetKey}
-use Rattle.recall_marks.proofs.KeySteps.{flat-long, written}
+use Rattle.recall_marks.proofs.KeySteps.{written}
 use Rattle.recall_marks.proofs.write_keys.Statement.{statement}
 use Rattle.recall_marks.proofs.write_keys.Tie as tie
-use Rattle.recall_marks.proofs.write_keys.Reads as reads
-use Rattle.recall_marks.proofs.write_keys.Lts as lts
-use Rattle.recall_marks.proofs.target_key.Reads as target-key-reads
 
 abbrev Inv-loop : tie.InvT-loop
 Inv-loop numbers keys₀ f i₀ keys i =

@@ -10,15 +10,6 @@ use Rattle.recall_order.specs.Recalls.{LaidOut}
 use Rattle.recall_order.proofs.OneRecall.{so, not-so, pick, Held, held-more, held-other, held-end, no-grant, bad-grant, near-none, near-bad, near-ok, not-given, far-none, far-bad, far-ok}
 use Rattle.recall_order.proofs.each_holds.Statement.{statement}
 use Rattle.recall_order.proofs.each_holds.Tie as tie
-use Rattle.recall_order.proofs.each_holds.Reads as reads
-use Rattle.recall_order.proofs.each_holds.Lts as lts
-use Rattle.index.proofs.place_of.Reads as place-of-reads
-use Rattle.recall_order.proofs.note_of.Reads as note-of-reads
-use Rattle.recall_order.proofs.own_name.Reads as own-name-reads
-use Rattle.recall_order.proofs.was_given.Reads as was-given-reads
-use Rattle.rules.proofs.far_entry_ok.Reads as far-entry-ok-reads
-use Rattle.rules.proofs.is_child_of.Reads as is-child-of-reads
-use Rattle.rules.proofs.recall_parent_ok.Reads as recall-parent-ok-reads
 
 abbrev Inv-loop : tie.InvT-loop
 Inv-loop numbers notes keys f es i₀ i = (i ≤ 256) × ((t : Tables) → LaidOut t f es numbers notes → Held t i)

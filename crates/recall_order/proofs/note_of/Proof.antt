@@ -6,9 +6,6 @@ use borrow.Author.Needs.{needs}
 use Rattle.recall_order.proofs.OneRecall.{getD-any}
 use Rattle.recall_order.proofs.note_of.Statement.{statement}
 use Rattle.recall_order.proofs.note_of.Tie as tie
-use Rattle.recall_order.proofs.note_of.Reads as reads
-use Rattle.recall_order.proofs.note_of.Lts as lts
-use Rattle.chains.proofs.wide.Reads as wide-reads
 
 returns : tie.Need-returns
 returns c = sym (List·getD-eq-default (c .before .before .args .notes .now) 256 (omega (arith, c .before .before .pre, c .if1 .taken)))

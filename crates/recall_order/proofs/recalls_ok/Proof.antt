@@ -9,13 +9,6 @@ use Rattle.recall_order.proofs.OneRecall.{so, not-so}
 use Rattle.recall_order.proofs.Whole.{targets-fit, not-each, two-places, two-dead, whole}
 use Rattle.recall_order.proofs.recalls_ok.Statement.{statement}
 use Rattle.recall_order.proofs.recalls_ok.Tie as tie
-use Rattle.recall_order.proofs.recalls_ok.Reads as reads
-use Rattle.recall_order.proofs.recalls_ok.Lts as lts
-use Rattle.recall_marks.proofs.children_marked.Reads as children-marked-reads
-use Rattle.recall_marks.proofs.dead_once.Reads as dead-once-reads
-use Rattle.recall_marks.proofs.mark_places.Reads as mark-places-reads
-use Rattle.recall_marks.proofs.write_keys.Reads as write-keys-reads
-use Rattle.recall_order.proofs.each_holds.Reads as each-holds-reads
 
 slice-aggregate-write-keys : tie.Need-slice-aggregate-write-keys
 slice-aggregate-write-keys c = search needs

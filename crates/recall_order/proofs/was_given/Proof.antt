@@ -8,10 +8,6 @@ use Rattle.lists.specs.Tests.{between}
 use Rattle.recall_order.proofs.OneRecall.{not-given-pad, not-given-program, given-number}
 use Rattle.recall_order.proofs.was_given.Statement.{statement}
 use Rattle.recall_order.proofs.was_given.Tie as tie
-use Rattle.recall_order.proofs.was_given.Reads as reads
-use Rattle.recall_order.proofs.was_given.Lts as lts
-use Rattle.chains.proofs.wide.Reads as wide-reads
-use Rattle.rules.proofs.is_between.Reads as is-between-reads
 
 returns : tie.Need-returns
 returns c = not-given-pad (c .before .before .args .t1) (c .before .before .args .n) (c .if1 .taken)

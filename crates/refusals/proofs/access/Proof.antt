@@ -9,11 +9,6 @@ use Rattle.machine.specs.Dock.{dockRefusal}
 use Rattle.refusals.proofs.AccessTests.{no-ticket, is-recall, outside, lacking, dock-says}
 use Rattle.refusals.proofs.access.Statement.{statement}
 use Rattle.refusals.proofs.access.Tie as tie
-use Rattle.dock.proofs.check.Reads as check-reads
-use Rattle.rights.proofs.Rights.contains.Reads as contains-reads
-use Rattle.rights.proofs.Rights.make.Reads as make-reads
-use Rattle.tables.proofs.Kind.is_live.Reads as is-live-reads
-use Rattle.tables.proofs.Kind.is_recall.Reads as is-recall-reads
 
 is-live-requires : tie.Need-is-live-requires
 is-live-requires c κs = search needs

@@ -10,14 +10,6 @@ use Rattle.machine.specs.Refusal.{_when_else_}
 use Rattle.refusals.proofs.PassTests.{place-found, no-place-found, numbers-left, numbers-spent, no-ticket, is-recall, to-itself, too-many, no-pass-on, too-much, asker-full, recipient-full, asker-spent, recipient-spent, by-entry}
 use Rattle.refusals.proofs.pass.Statement.{statement}
 use Rattle.refusals.proofs.pass.Tie as tie
-use Rattle.pads.proofs.free_place.Reads as free-place-reads
-use Rattle.refusals.proofs.is_to_itself.Reads as is-to-itself-reads
-use Rattle.refusals.proofs.lacks_entry.Reads as lacks-entry-reads
-use Rattle.rights.proofs.Rights.can_pass.Reads as can-pass-reads
-use Rattle.rights.proofs.Rights.contains.Reads as contains-reads
-use Rattle.rights.proofs.Rights.make.Reads as make-reads
-use Rattle.tables.proofs.Kind.is_live.Reads as is-live-reads
-use Rattle.tables.proofs.Kind.is_recall.Reads as is-recall-reads
 
 is-live-requires : tie.Need-is-live-requires
 is-live-requires c κs = search needs

@@ -7,8 +7,6 @@ use Rattle.roots.specs.Marks.{Fresh}
 use Rattle.roots.proofs.Marking.{fresh-none, fresh-more, hit, all-fresh, one-shared}
 use Rattle.roots.proofs.mark.Statement.{statement}
 use Rattle.roots.proofs.mark.Tie as tie
-use Rattle.roots.proofs.mark.Reads as reads
-use Rattle.roots.proofs.mark.Lts as lts
 
 abbrev Inv-loop : tie.InvT-loop
 Inv-loop marks₀ first count i₀ marks i = (i ≤ count) × ((length marks ≡ length marks₀) × Fresh first i marks₀ marks)

@@ -9,9 +9,6 @@ use Rattle.roots.specs.Marks.{Spanned}
 use Rattle.roots.proofs.Roots.{Swept, swept-none, swept-skip, swept-more, swept-shared, swept-end}
 use Rattle.roots.proofs.roots_apart.Statement.{statement}
 use Rattle.roots.proofs.roots_apart.Tie as tie
-use Rattle.roots.proofs.roots_apart.Reads as reads
-use Rattle.roots.proofs.roots_apart.Lts as lts
-use Rattle.roots.proofs.mark.Reads as mark-reads
 
 abbrev Inv-loop : tie.InvT-loop
 Inv-loop es marks₀ i₀ marks i = (i ≤ 256) × ((length marks ≡ 256) × (Spanned es → Swept es i marks))

@@ -5,10 +5,6 @@ use Rattle.lists.specs.Tests.{implies}
 use Rattle.rules.proofs.Spans.{of-spans}
 use Rattle.rules.proofs.far_entry_ok.Statement.{statement}
 use Rattle.rules.proofs.far_entry_ok.Tie as tie
-use Rattle.rules.proofs.Span.is_inside.Reads as is-inside-reads
-use Rattle.rules.proofs.Span.of_entry.Reads as of-entry-reads
-use Rattle.rules.proofs.Span.of_ticket.Reads as of-ticket-reads
-use Rattle.tables.proofs.Name.is.Reads as is-reads
 
 returns : tie.Need-returns
 unfolding implies

@@ -4,7 +4,6 @@ use borrow.Author.Needs.{needs}
 use Rattle.tables.specs.Order.{grantOk}
 use Rattle.rules.proofs.grant_ok.Statement.{statement}
 use Rattle.rules.proofs.grant_ok.Tie as tie
-use Rattle.rules.proofs.kind_ok.Reads as kind-ok-reads
 
 kind-ok-requires : tie.Need-kind-ok-requires
 kind-ok-requires c κs = search needs

@@ -4,8 +4,6 @@ use borrow.Author.Needs.{needs}
 use Rattle.tables.specs.Order.{isChildOf}
 use Rattle.rules.proofs.is_child_of.Statement.{statement}
 use Rattle.rules.proofs.is_child_of.Tie as tie
-use Rattle.tables.proofs.Kind.is_child.Reads as is-child-reads
-use Rattle.tables.proofs.Name.is.Reads as is-reads
 
 is-child-requires : tie.Need-is-child-requires
 is-child-requires c κs = search needs

@@ -3,8 +3,6 @@ use borrow.Author.Tests.{eq-eqb, ne-eqb}
 use borrow.Author.Needs.{needs}
 use Rattle.rules.proofs.kind_ok.Statement.{statement}
 use Rattle.rules.proofs.kind_ok.Tie as tie
-use Rattle.tables.proofs.Kind.is_received.Reads as is-received-reads
-use Rattle.tables.proofs.Kind.is_taken.Reads as is-taken-reads
 
 is-taken-requires : tie.Need-is-taken-requires
 is-taken-requires c κs = search needs

@@ -5,9 +5,6 @@ use Rattle.tables.specs.Order.{parentEntryOk}
 use Rattle.rules.proofs.Spans.{of-spans}
 use Rattle.rules.proofs.parent_entry_ok.Statement.{statement}
 use Rattle.rules.proofs.parent_entry_ok.Tie as tie
-use Rattle.rights.proofs.Rights.can_pass.Reads as can-pass-reads
-use Rattle.rules.proofs.Span.is_inside.Reads as is-inside-reads
-use Rattle.rules.proofs.Span.of_entry.Reads as of-entry-reads
 
 returns : tie.Need-returns
 unfolding parentEntryOk

@@ -5,11 +5,6 @@ use Rattle.tables.specs.Order.{parentOk}
 use Rattle.rules.proofs.Spans.{of-spans}
 use Rattle.rules.proofs.parent_ok.Statement.{statement}
 use Rattle.rules.proofs.parent_ok.Tie as tie
-use Rattle.rights.proofs.Rights.can_pass.Reads as can-pass-reads
-use Rattle.rules.proofs.Span.is_inside.Reads as is-inside-reads
-use Rattle.rules.proofs.Span.of_ticket.Reads as of-ticket-reads
-use Rattle.tables.proofs.Kind.is_grant.Reads as is-grant-reads
-use Rattle.tables.proofs.Name.is.Reads as is-reads
 
 is-grant-requires : tie.Need-is-grant-requires
 is-grant-requires c κs = search needs

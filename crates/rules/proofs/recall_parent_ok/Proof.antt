@@ -4,8 +4,6 @@ use borrow.Author.Needs.{needs}
 use Rattle.tables.specs.Order.{recallParentOk}
 use Rattle.rules.proofs.recall_parent_ok.Statement.{statement}
 use Rattle.rules.proofs.recall_parent_ok.Tie as tie
-use Rattle.rights.proofs.Rights.can_pass.Reads as can-pass-reads
-use Rattle.tables.proofs.Kind.is_grant.Reads as is-grant-reads
 
 is-grant-requires : tie.Need-is-grant-requires
 is-grant-requires c κs = search needs

@@ -4,7 +4,6 @@ use borrow.Author.Needs.{needs}
 use Rattle.tables.specs.Order.{spanOk}
 use Rattle.rules.proofs.span_ok.Statement.{statement}
 use Rattle.rules.proofs.span_ok.Tie as tie
-use Rattle.rules.proofs.is_between.Reads as is-between-reads
 
 returns : tie.Need-returns
 unfolding spanOk

@@ -7,14 +7,6 @@ use Rattle.serve.proofs.FromOrder.{ready}
 use Rattle.serve.proofs.Parts.{by-fields, stopped, asks, is-write}
 use Rattle.serve.proofs.request.Statement.{statement}
 use Rattle.serve.proofs.request.Tie as tie
-use Rattle.access.proofs.read.Reads as read-reads
-use Rattle.access.proofs.write.Reads as write-reads
-use Rattle.pass.proofs.pass.Reads as pass-reads
-use Rattle.give_back.proofs.give_back.Reads as give-back-reads
-use Rattle.recall.proofs.recall.Reads as recall-reads
-use Rattle.request.proofs.refusal.Reads as refusal-reads
-use Rattle.served.proofs.answer.Reads as answer-reads
-use Rattle.take.proofs.take.Reads as take-reads
 
 refusal-requires : tie.Need-refusal-requires
 refusal-requires c κs = search needs

@@ -5,9 +5,6 @@ use Rattle.machine.specs.Refusal.{_when_else_}
 use Rattle.machine.specs.Dock.{dockCheck}
 use Rattle.step.proofs.check.Statement.{statement}
 use Rattle.step.proofs.check.Tie as tie
-use Rattle.dock.proofs.check.Reads as check-reads
-use Rattle.dock.proofs.entry_in.Reads as entry-in-reads
-use Rattle.order.proofs.in_order.Reads as in-order-reads
 
 in-order-requires : tie.Need-in-order-requires
 in-order-requires c κs = search needs

@@ -2,8 +2,6 @@ use borrow.Author.Needs.{needs}
 use Rattle.step.proofs.Parts.{not-emptied, all-emptied}
 use Rattle.step.proofs.empty.Statement.{statement}
 use Rattle.step.proofs.empty.Tie as tie
-use Rattle.step.proofs.empty_tables.Reads as empty-tables-reads
-use Rattle.store.proofs.clear.Reads as clear-reads
 
 empty-tables-requires : tie.Need-empty-tables-requires
 empty-tables-requires c κs = search needs

@@ -3,8 +3,6 @@ use borrow.Author.Needs.{needs}
 use Rattle.tables.specs.Names.{emptyTables}
 use Rattle.step.proofs.empty_tables.Statement.{statement}
 use Rattle.step.proofs.empty_tables.Tie as tie
-use Rattle.tables.proofs.Entry.none.Reads as none-reads
-use Rattle.tables.proofs.Ticket.free.Reads as free-reads
 
 free-requires : tie.Need-free-requires
 free-requires c κs = search needs

@@ -7,9 +7,6 @@ use Rattle.serve.proofs.Parts.{by-fields, same-outcome}
 use Rattle.step.proofs.Parts.{other-store, other-sheet, not-in-order, is-served}
 use Rattle.step.proofs.step.Statement.{statement}
 use Rattle.step.proofs.step.Tie as tie
-use Rattle.order.proofs.in_order.Reads as in-order-reads
-use Rattle.serve.proofs.request.Reads as request-reads
-use Rattle.served.proofs.answer.Reads as answer-reads
 
 answer-requires : tie.Need-answer-requires
 answer-requires c κs = search needs

@@ -4,7 +4,6 @@ use borrow.Author.Needs.{needs}
 use Rattle.tables.specs.Sheets.{inside}
 use Rattle.rules.proofs.Span.is_inside.Statement.{statement}
 use Rattle.rules.proofs.Span.is_inside.Tie as tie
-use Rattle.rights.proofs.Rights.contains.Reads as contains-reads
 
 returns : tie.Need-returns
 unfolding inside
