@@ -5,7 +5,7 @@ use native.Mathlib.Nat.{le-of-suc-le-suc, not-suc-le-zero}
 use native.Mathlib.Omega.{arith}
 use mathlib.Core.Path.{_≡_, refl, sym, ap, _∙_, subst}
 use mathlib.Core.Bool.{Bool, true, false, not, _&&_, _||_}
-use mathlib.Core.List.{List, [], _∷_, map}
+use mathlib.Core.List.{List, [], _∷_, _++_, map}
 use lib.ListN.{length, getD, set}
 use borrow.Author.Tests.{not-true}
 use Rattle.lists.specs.Tests.{implies}
@@ -142,6 +142,12 @@ module _ {A : Type 0} (d : A) where
   getD-mapAt h e l j = mapAt-from h e 0 l j ∙ ap (λ (m : ℕ). h m (getD l j d)) (zero-plus j)
 
 module _ {A : Type 0} where
+  -- two lists, one behind the other
+  pub all-append : (f : A → Bool) (l m : List A) → all f l ≡ true → all f m ≡ true → all f (l ++ m) ≡ true
+  unfolding all
+  all-append f [] m p q = q
+  all-append f (x ∷ l) m p q = and-intro (and-l (f x) (all f l) p) (all-append f l m (and-r (f x) (all f l) p) q)
+
   pub length-mapAt : (h : ℕ → A → A) (i : ℕ) (l : List A) → length (mapAt h i l) ≡ length l
   unfolding mapAt
   length-mapAt h i [] = refl

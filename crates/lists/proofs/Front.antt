@@ -1,11 +1,13 @@
 -- The first i elements of f laid over t: what a loop that stores f's elements one after the other has after i turns. With the laws for
--- no turn, one more turn and the end. A fill is the front of a list that has one element everywhere.
-use Prim.Native.Nat.{ℕ, zero, suc, _+_, _≤_, _<_}
+-- no turn, one more turn and the end. A fill is the front of a list that has one element everywhere. Last, the part of a list from a place
+-- on.
+use Prim.Native.Nat.{ℕ, zero, suc, _+_, _-_, _≤_, _<_}
 use native.Mathlib.Numerals.{add-one}
 use native.Mathlib.Omega.{arith}
 use mathlib.Core.Path.{_≡_, refl, sym, ap, _∙_}
 use mathlib.Core.List.{List, [], _∷_, _++_, map}
-use lib.ListN.{length, getD, set, take, drop, replicate, length-replicate, getD-replicate, length-map, List·getD-map}
+use lib.ListN.{length, getD, set, take, drop, replicate, length-replicate, getD-replicate, length-map, length-drop, List·getD-map}
+use lib.Seq.{take-all}
 
 unfoldable pub front : {A : Type 0} → ℕ → List A → List A → List A
 front zero f t = t
@@ -47,6 +49,15 @@ module _ {A : Type 0} where
   front-end (suc i) (a ∷ f) [] h e = absurd (omega arith)
   front-end (suc i) (a ∷ f) (b ∷ t) h e = ap (λ (l : List A). a ∷ l) (front-end i f t (omega arith) (omega arith))
 
+  -- all of f over the front of a longer list
+  pub front-over : (i : ℕ) (f t : List A) → length f ≤ i → length f ≤ length t → front i f t ≡ f ++ drop (length f) t
+  unfolding front
+  front-over zero [] t h l = refl
+  front-over zero (a ∷ f) t h l = absurd (omega arith)
+  front-over (suc i) [] t h l = refl
+  front-over (suc i) (a ∷ f) [] h l = absurd (omega arith)
+  front-over (suc i) (a ∷ f) (b ∷ t) h l = ap (λ (r : List A). a ∷ r) (front-over i f t (omega arith) (omega arith))
+
   -- ---- a fill with x
   pub fill-more : (i n : ℕ) (x : A) (t : List A) → i < n → set (front i (replicate n x) t) i x ≡ front (i + 1) (replicate n x) t
   fill-more i n x t h =
@@ -82,3 +93,7 @@ pub front-map : {A B : Type 0} (g : A → B) (l : List A) (d : A) (t : List B) (
 front-map {A} {B} g l d t i h =
     ap (λ (b : B). set (front i (map g l) t) i b) (sym (List·getD-map g l i d))
     ∙ front-more i (map g l) t (g d) (rw (length-map l g) h)
+
+-- the part of a list from `at` on
+pub rest-part : {A : Type 0} (l : List A) (at : ℕ) → take (length l - at) (drop at l) ≡ drop at l
+rest-part l at = take-all (length l - at) (drop at l) (omega (arith, length-drop at l))

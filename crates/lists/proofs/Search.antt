@@ -1,6 +1,6 @@
 -- The first element that passes a test: what is found, after an element is put in the first place that passes another test, and
 -- after a change of every element. Then the least number that passes.
-use Prim.Native.Nat.{ℕ, zero, suc, _+_, _<_}
+use Prim.Native.Nat.{ℕ, zero, suc, _+_, _≤_, _<_}
 use native.Mathlib.Nat.{le-of-suc-le-suc, not-suc-le-zero}
 use native.Mathlib.Omega.{arith}
 use mathlib.Core.Path.{_≡_, refl, sym, ap, _∙_}
@@ -22,6 +22,15 @@ module _ {A : Type 0} where
   pub first-later : (f : A → Bool) (x : A) (xs : List A) → f x ≡ false → firstIndex f (x ∷ xs) ≡ suc (firstIndex f xs)
   unfolding firstIndex
   first-later f x xs e = rw e
+
+  pub first-within : (f : A → Bool) (l : List A) → firstIndex f l ≤ length l
+  unfolding firstIndex
+  first-within f [] = omega arith
+  first-within f (x ∷ xs) = go (first-within f xs) (case (f x))
+    where
+      go : firstIndex f xs ≤ length xs → Case (f x) → cond (f x) 0 (suc (firstIndex f xs)) ≤ suc (length xs)
+      go later (pass e) = rw e (omega arith)
+      go later (fail e) = rw e (omega arith)
 
   pub find-here : (f : A → Bool) (x : A) (xs : List A) (d : A) → f x ≡ true → find f (x ∷ xs) d ≡ x
   find-here f x xs d e = rw (first-here f x xs e)

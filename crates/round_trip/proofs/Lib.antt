@@ -1,0 +1,3 @@
+pub mod DecimalLaws
+pub mod JoinedFields
+pub mod RoundTrip
