@@ -1,0 +1,23 @@
+// The trace program: the requests of standard input in, their answers out to standard output.
+ghost use Prim.Native.Nat.{_≤_};
+ghost use mathlib.Core.Path.{_≡_};
+ghost use lib.ListN.{length, take};
+ghost use Rattle.tracing.specs.Trace.{trace};
+
+// The trace in a buffer that every trace fits into: it is never refused.
+fn whole_trace(input: &[u8], out: &mut [u8]) -> usize
+    requires { ⌜ length (now out) ≡ 983074 ⌝ }
+    ensures { λ r. ⌜ r ≤ length (now (out .exit)) ⌝ }
+    ensures { λ r. ⌜ take r (now (out .exit)) ≡ trace (now (input .entry)) ⌝ }
+{
+    tracing::trace(input, out)
+}
+
+// One byte past the longest input is enough to know that it is too long.
+fn main() {
+    let mut input = [0u8; 65537];
+    let mut out = tracing::buffer();
+    let read = io::read_full(0, &mut input);
+    let written = whole_trace(&input[..read], &mut out);
+    io::write_all(1, &out[..written]);
+}

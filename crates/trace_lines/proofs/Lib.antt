@@ -1,0 +1,3 @@
+pub mod LineReading
+pub mod AnswerLine
+pub mod Appending

@@ -1,0 +1,4 @@
+pub mod AnswersLaws
+pub mod TraceSteps
+pub mod WholeTrace
+pub mod WholeTexts
