@@ -40,7 +40,7 @@ sentBy line =
     let values = valuesOf line in
     record { request = requestOf values; sheet = replicate 64 (fillOf values); whole = length-replicate 64 (fillOf values) }
 
--- ---- a line of the output: "the line's number from 1, the answer's three numbers, and the first byte of an inputOk read or 0"
+-- ---- a line of the output: "the line's number from 1, the answer's three numbers, and the first byte of an accepted read or 0"
 unfoldable pub answerLine : ℕ → Answer → ℕ → List ℕ
 answerLine number a byte = valuesLine (number ∷ a .result ∷ a .ticket ∷ a .recipient ∷ byte ∷ [])
 
