@@ -6,19 +6,17 @@ use native.Mathlib.Omega.{arith}
 use mathlib.Core.Path.{_≡_, refl, sym, ap, _∙_}
 use mathlib.Core.Bool.{true, false, cond}
 use mathlib.Core.List.{List, [], _∷_}
-use lib.Dec.{eqb}
 use lib.ListN.{length, getD, take, drop, drop-of-length-le}
-use lib.Seq.{length-take-le, drop-cons}
+use lib.Seq.{drop-cons}
 use borrow.Author.Tests.{le-leb, lt-leb, eq-eqb, ne-eqb, leb-true}
 use Rattle.lists.specs.Tests.{between}
 use Rattle.lists.specs.Lists.{all}
 use Rattle.lists.proofs.Tests.{Case, pass, fail, case, and-false, and-r, between-test}
-use Rattle.lists.proofs.Search.{first-within}
 use Rattle.text.specs.declared.Read.the-variants.{Number, Other}
 use Rattle.text.specs.Bytes.{space}
 use Rattle.text.specs.Reading.{isDigit, numberFrom, number, isNumber, noLeadingZero, isValue, firstField, valueIn}
 use Rattle.text.specs.FieldNumber.{numberOr}
-use Rattle.text.proofs.ReadingLaws.{upTo}
+use Rattle.text.proofs.ReadingLaws.{upTo, first-long}
 
 -- ---- digits
 pub digit-yes : (b : ℕ) → 48 ≤ b → b ≤ 57 → isDigit b ≡ true
@@ -98,10 +96,6 @@ module _ (rest : List ℕ) (end n : ℕ) (ends : end ≡ upTo space rest)
   unfolding firstField
   of-first = read ∙ ap (λ (k : ℕ). numberOr 65536 (isValue (take k rest)) (take k rest)) ends
 
-  first-long : length (firstField rest) ≡ end
-  unfolding firstField
-  first-long = length-take-le (upTo space rest) rest (first-within (λ b. eqb b space) rest) ∙ sym ends
-
   pub other-read : n ≡ 65536 → Other ≡ valueIn rest
   unfolding valueIn numberOr
   other-read none = go (case (isValue (firstField rest)))
@@ -124,5 +118,5 @@ module _ (rest : List ℕ) (end n : ℕ) (ends : end ≡ upTo space rest)
           let is : n ≡ number (firstField rest) = of-first ∙ rw v in
           let small : number (firstField rest) ≤ 65535 = value-small (firstField rest) v in
           let whole : n % 65536 ≡ number (firstField rest) = omega arith in
-          rw (v, whole, first-long)
+          rw (v, whole, first-long rest, ends)
       go (fail v) = absurd (some (of-first ∙ rw v))

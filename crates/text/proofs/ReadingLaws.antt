@@ -8,11 +8,11 @@ use mathlib.Core.Bool.{true, false, _&&_}
 use mathlib.Core.List.{List, [], _∷_}
 use lib.Dec.{leb, eqb}
 use lib.ListN.{length, take, drop, drop-of-length-le}
-use lib.Seq.{take-all}
+use lib.Seq.{length-take-le, take-all}
 use borrow.Author.Tests.{eq-eqb, ne-eqb, leb-true, leb-false, eqb-true}
 use Rattle.lists.specs.Lists.{all, firstIndex}
 use Rattle.lists.proofs.Tests.{Case, pass, fail, case, and-false, both-ways}
-use Rattle.lists.proofs.Search.{first-here, first-later}
+use Rattle.lists.proofs.Search.{first-here, first-later, first-within}
 use Rattle.text.specs.Bytes.{lineEnd, space}
 use Rattle.text.specs.Reading.{inFront, cut, lines, fields, number, isValue, hasValues, valuesOf, firstField}
 
@@ -88,6 +88,11 @@ fields-more : (line : List ℕ) → upTo space line < length line
     → fields line ≡ firstField line ∷ fields (drop (suc (upTo space line)) line)
 unfolding fields firstField
 fields-more line h = cut-found space ([] ∷ []) line h
+
+-- the first field is as long as the way to the next space or the end
+pub first-long : (rest : List ℕ) → length (firstField rest) ≡ upTo space rest
+unfolding firstField
+first-long rest = length-take-le (upTo space rest) rest (first-within (λ b. eqb b space) rest)
 
 fields-last : (line : List ℕ) → length line ≤ upTo space line → fields line ≡ firstField line ∷ []
 unfolding fields firstField

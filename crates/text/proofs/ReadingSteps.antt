@@ -7,14 +7,14 @@ use mathlib.Core.Bool.{Bool, true, false}
 use mathlib.Core.List.{List, [], _∷_, _++_}
 use lib.Dec.{eqb}
 use lib.ListN.{length, set, take, drop, length-drop, length-set}
-use lib.Seq.{length-take-le, take-all, take-suc-set, drop-drop, append-snoc}
+use lib.Seq.{take-all, take-suc-set, drop-drop, append-snoc}
 use Rattle.lists.proofs.Tests.{Case, pass, fail, case, no-true}
 use Rattle.lists.proofs.Search.{first-within}
 use Rattle.text.specs.declared.Read.{Read}
 use Rattle.text.specs.declared.Read.the-variants.{Number, Other}
 use Rattle.text.specs.Bytes.{space}
 use Rattle.text.specs.Reading.{number, isValue, hasValues, valuesOf, firstField, valueIn}
-use Rattle.text.proofs.ReadingLaws.{upTo, values-more, values-rest, values-last, one-value, too-few, too-many, no-value}
+use Rattle.text.proofs.ReadingLaws.{upTo, first-long, values-more, values-rest, values-last, one-value, too-few, too-many, no-value}
 
 -- ---- what the value reader told
 pub record Told (rest : List ℕ) (value end : ℕ) : Type 0 where
@@ -44,17 +44,13 @@ module _ (rest : List ℕ) where
   unfolding valueIn
   other-read v = rw v
 
-  first-long : length (firstField rest) ≡ upTo space rest
-  unfolding firstField
-  first-long = length-take-le (upTo space rest) rest (first-within (λ b. eqb b space) rest)
-
   pub told : (value end : ℕ) → Number value end ≡ valueIn rest → Told rest value end
   told value end e = go (case (isValue (firstField rest)))
     where
       go : Case (isValue (firstField rest)) → Told rest value end
       go (pass v) =
           let q = e ∙ formed-read v in
-          record { formed = v; is = ap value-or q; ends = ap end-or q ∙ first-long }
+          record { formed = v; is = ap value-or q; ends = ap end-or q ∙ first-long rest }
       go (fail v) = no-true (sym (ap is-number (e ∙ other-read v)))
 
   pub told-other : Other ≡ valueIn rest → isValue (firstField rest) ≡ false

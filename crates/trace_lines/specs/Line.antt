@@ -10,7 +10,7 @@ use Rattle.machine.specs.Sequence.{Sent}
 use Rattle.text.specs.Reading.{hasValues, valuesOf}
 use Rattle.text.specs.Writing.{valuesLine}
 
--- ---- a line of the input
+-- ---- a line of the input: the request's nine numbers and the fill, in the order of the names
 abbrev pub requestOf : List ℕ → Request
 requestOf values = record {
   pad = getD values 0 0;
@@ -31,6 +31,7 @@ fillOf values = getD values 9 0
 unfoldable pub fillOk : ℕ → ℕ → Bool
 fillOk op fill = cond (eqb op 6) (leb fill 255) (eqb fill 0)
 
+-- ten values, and a fill that the op may have
 unfoldable pub inForm : List ℕ → Bool
 inForm line = let values = valuesOf line in hasValues 10 line && fillOk (requestOf values .op) (fillOf values)
 
