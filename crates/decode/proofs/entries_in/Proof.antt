@@ -1,0 +1,96 @@
+use Rattle.tables.specs.Names.{noEntry}
+use Rattle.lists.proofs.Front.{rest-part}
+use Rattle.lists.proofs.Laid.{Laid, laid-none, one-more}
+use lib.ListN.{drop}
+use Rattle.image.proofs.PartLaws.{tabulated}
+use Rattle.image.specs.Image.{entryIn, decode}
+use Prim.Native.Nat.{ℕ, _+_, _-_, _*_, _≤_, _<_}
+use mathlib.Core.Path.{_≡_, refl, sym, ap, subst, _∙_}
+use native.Mathlib.Omega.{arith}
+use borrow.Author.Needs.{needs}
+use lib.ListN.{length, getD, set}
+use Rattle.decode.proofs.entries_in.Statement.{statement}
+use Rattle.decode.proofs.entries_in.Tie as tie
+use Rattle.decode.proofs.entries_in.Reads as reads
+use Rattle.decode.proofs.entries_in.Lts as lts
+use Rattle.decode.proofs.entry_in.Reads as entry-in-reads
+use Rattle.tables.proofs.Entry.none.Reads as none-reads
+
+abbrev Inv-loop : tie.InvT-loop
+Inv-loop bytes entries₀ i₀ entries i = (i ≤ 256) × Laid noEntry 256 (λ j. entryIn (drop (6208 + 20 * j) bytes)) i entries
+
+abbrev μ-loop : tie.MeasureT-loop
+μ-loop bytes entries₀ i₀ entries i = 256 - i
+
+none-requires : tie.Need-none-requires Inv-loop μ-loop
+none-requires c κs = search needs
+
+loop-holds : tie.Need-loop-holds Inv-loop μ-loop
+loop-holds c = (omega arith, laid-none noEntry 256 (λ j. entryIn (drop (6208 + 20 * j) (c .before .before .args .bytes .now))) _)
+
+mul-at : tie.Need-mul-at Inv-loop μ-loop
+mul-at c = search needs
+
+add-at : tie.Need-add-at Inv-loop μ-loop
+add-at c = search needs
+
+sub-entry-in : tie.Need-sub-entry-in Inv-loop μ-loop
+sub-entry-in c = search needs
+
+part-entry-in-start : tie.Need-part-entry-in-start Inv-loop μ-loop
+part-entry-in-start c = search needs
+
+part-entry-in-end : tie.Need-part-entry-in-end Inv-loop μ-loop
+part-entry-in-end c = search needs
+
+entry-in-requires : tie.Need-entry-in-requires Inv-loop μ-loop
+entry-in-requires c κs = search needs
+
+mul-entries : tie.Need-mul-entries Inv-loop μ-loop
+mul-entries c = search needs
+
+array-set-from-entries : tie.Need-array-set-from-entries Inv-loop μ-loop
+array-set-from-entries c = search needs
+
+add-i : tie.Need-add-i Inv-loop μ-loop
+add-i c = search needs
+
+loop-less : tie.Need-loop-less Inv-loop μ-loop
+loop-less c = search needs
+
+loop-again : tie.Need-loop-again Inv-loop μ-loop
+loop-again c =
+    let c3 = c .before .before .before in
+    let l = c3 .before .before .before .args .bytes .now in (
+      omega arith,
+      one-more noEntry 256 (λ j. entryIn (drop (6208 + 20 * j) l)) (c3 .loop .i) _ _ (c3 .loop .inv .1) (omega arith)
+          (c .entry-in .ensures ∙ ap entryIn (rest-part l (6208 + 20 * c3 .loop .i))),
+    )
+
+returns : tie.Need-returns Inv-loop μ-loop
+unfolding decode
+returns c =
+    let c1 = c .before in
+    let l = c1 .before .before .before .args .bytes .now in
+    tabulated noEntry 256 (c1 .loop .i) (λ j. entryIn (drop (6208 + 20 * j) l)) (c1 .loop .entries) (omega arith) (c1 .loop .inv .1)
+
+pub entries-in-spec : {M : Type 1} → statement M
+entries-in-spec =
+    tie.close
+    (tie.spec
+    Inv-loop
+    μ-loop
+    none-requires
+    loop-holds
+    mul-at
+    add-at
+    sub-entry-in
+    part-entry-in-start
+    part-entry-in-end
+    entry-in-requires
+    mul-entries
+    array-set-from-entries
+    add-i
+    loop-less
+    loop-again
+    returns)

@@ -1,0 +1,63 @@
+use lib.Dec.{eqb}
+use Rattle.image.specs.Image.{entryIn}
+use Rattle.rights.specs.Rules.{rightsOf}
+use Prim.Native.Nat.{ℕ, _+_, _-_, _*_, _≤_, _<_}
+use mathlib.Core.Path.{_≡_, refl, sym, ap, subst, _∙_}
+use native.Mathlib.Omega.{arith}
+use borrow.Author.Needs.{needs}
+use lib.ListN.{length, getD, set}
+use Rattle.decode.proofs.entry_in.Statement.{statement}
+use Rattle.decode.proofs.entry_in.Tie as tie
+use Rattle.decode.proofs.entry_in.Reads as reads
+use Rattle.decode.proofs.entry_in.Lts as lts
+use Rattle.decode.proofs.name_at.Reads as name-at-reads
+use Rattle.decode.proofs.number_at.Reads as number-at-reads
+use Rattle.rights.proofs.Rights.make.Reads as make-reads
+
+number-at-requires : tie.Need-number-at-requires
+number-at-requires c κs = search needs
+
+name-at-requires : tie.Need-name-at-requires
+name-at-requires c κs = search needs
+
+name-at-requires-2 : tie.Need-name-at-requires-2
+name-at-requires-2 c κs = search needs
+
+number-at-requires-2 : tie.Need-number-at-requires-2
+number-at-requires-2 c κs = search needs
+
+make-requires : tie.Need-make-requires
+make-requires c κs = search needs
+
+number-at-requires-3 : tie.Need-number-at-requires-3
+number-at-requires-3 c κs = search needs
+
+number-at-requires-4 : tie.Need-number-at-requires-4
+number-at-requires-4 c κs = search needs
+
+returns : tie.Need-returns
+unfolding entryIn
+returns c =
+    let c3 = c .before .before .before in
+    let c6 = c3 .before .before .before in
+    λ i. record {
+      live = eqb (c6 .number-at .ensures i) 1;
+      name = c3 .before .before .name-at .ensures i;
+      parent = c3 .before .name-at2 .ensures i;
+      first = c .before .number-at3 .ensures i;
+      count = c .number-at4 .ensures i;
+      rights = (c .before .before .make .ensures ∙ ap rightsOf (c3 .number-at2 .ensures)) i;
+    }
+
+pub entry-in-spec : {M : Type 1} → statement M
+entry-in-spec =
+    tie.close
+    (tie.spec
+    number-at-requires
+    name-at-requires
+    name-at-requires-2
+    number-at-requires-2
+    make-requires
+    number-at-requires-3
+    number-at-requires-4
+    returns)

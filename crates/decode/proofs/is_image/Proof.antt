@@ -1,0 +1,42 @@
+use borrow.Author.Tests.{ne-eqb, eq-eqb, not-true, not-false}
+use Rattle.image.specs.Image.{isImage}
+use Prim.Native.Nat.{ℕ, _+_, _-_, _*_, _≤_, _<_}
+use mathlib.Core.Path.{_≡_, refl, sym, ap, subst, _∙_}
+use native.Mathlib.Omega.{arith}
+use borrow.Author.Needs.{needs}
+use lib.ListN.{length, getD, set}
+use Rattle.decode.proofs.is_image.Statement.{statement}
+use Rattle.decode.proofs.is_image.Tie as tie
+use Rattle.decode.proofs.is_image.Reads as reads
+use Rattle.decode.proofs.is_image.Lts as lts
+use Rattle.decode.proofs.kinds_ok.Reads as kinds-ok-reads
+use Rattle.decode.proofs.lives_ok.Reads as lives-ok-reads
+
+returns : tie.Need-returns
+unfolding isImage
+returns c =
+    let l = c .before .before .args .bytes .now in
+    rw (ne-eqb (length l) 11328 (c .if1 .taken))
+
+kinds-ok-requires : tie.Need-kinds-ok-requires
+kinds-ok-requires c κs = search needs
+
+returns-2 : tie.Need-returns-2
+unfolding isImage
+returns-2 c =
+    let l = c .before .before .before .before .args .bytes .now in
+    rw (eq-eqb (length l) 11328 (c .before .before .if1 .left), sym (c .before .kinds-ok .ensures) ∙ not-true _ (c .if2 .taken))
+
+lives-ok-requires : tie.Need-lives-ok-requires
+lives-ok-requires c κs = search needs
+
+returns-3 : tie.Need-returns-3
+unfolding isImage
+returns-3 c =
+    let l = c .before .before .before .before .before .args .bytes .now in
+    rw (eq-eqb (length l) 11328 (c .before .before .before .if1 .left), sym (c .before .before .kinds-ok .ensures) ∙ not-false _ (c .before .if2 .left))
+    (c .lives-ok .ensures)
+
+pub is-image-spec : {M : Type 1} → statement M
+is-image-spec =
+    tie.close (tie.spec returns kinds-ok-requires returns-2 lives-ok-requires returns-3)

@@ -1,0 +1,91 @@
+use Rattle.tables.specs.Names.{noPad}
+use Rattle.lists.proofs.Front.{rest-part}
+use Rattle.lists.proofs.Laid.{Laid, laid-none, one-more}
+use lib.ListN.{drop}
+use Rattle.image.proofs.PartLaws.{tabulated}
+use Rattle.image.specs.Image.{padIn, decode}
+use Prim.Native.Nat.{ℕ, _+_, _-_, _*_, _≤_, _<_}
+use mathlib.Core.Path.{_≡_, refl, sym, ap, subst, _∙_}
+use native.Mathlib.Omega.{arith}
+use borrow.Author.Needs.{needs}
+use lib.ListN.{length, getD, set}
+use Rattle.decode.proofs.pads_in.Statement.{statement}
+use Rattle.decode.proofs.pads_in.Tie as tie
+use Rattle.decode.proofs.pads_in.Reads as reads
+use Rattle.decode.proofs.pads_in.Lts as lts
+use Rattle.decode.proofs.pad_in.Reads as pad-in-reads
+
+abbrev Inv-loop : tie.InvT-loop
+Inv-loop bytes pads₀ i₀ pads i = (i ≤ 4) × Laid noPad 4 (λ j. padIn (drop (1552 * j) bytes)) i pads
+
+abbrev μ-loop : tie.MeasureT-loop
+μ-loop bytes pads₀ i₀ pads i = 4 - i
+
+pad-in-requires : tie.Need-pad-in-requires Inv-loop μ-loop
+pad-in-requires c κs = search needs
+
+loop-holds : tie.Need-loop-holds Inv-loop μ-loop
+loop-holds c = (omega arith, laid-none noPad 4 (λ j. padIn (drop (1552 * j) (c .before .before .args .bytes .now))) _)
+
+mul-at : tie.Need-mul-at Inv-loop μ-loop
+mul-at c = search needs
+
+sub-pad-in : tie.Need-sub-pad-in Inv-loop μ-loop
+sub-pad-in c = search needs
+
+part-pad-in-start : tie.Need-part-pad-in-start Inv-loop μ-loop
+part-pad-in-start c = search needs
+
+part-pad-in-end : tie.Need-part-pad-in-end Inv-loop μ-loop
+part-pad-in-end c = search needs
+
+pad-in-requires-2 : tie.Need-pad-in-requires-2 Inv-loop μ-loop
+pad-in-requires-2 c κs = search needs
+
+mul-pads : tie.Need-mul-pads Inv-loop μ-loop
+mul-pads c = search needs
+
+array-set-from-pads : tie.Need-array-set-from-pads Inv-loop μ-loop
+array-set-from-pads c = search needs
+
+add-i : tie.Need-add-i Inv-loop μ-loop
+add-i c = search needs
+
+loop-less : tie.Need-loop-less Inv-loop μ-loop
+loop-less c = search needs
+
+loop-again : tie.Need-loop-again Inv-loop μ-loop
+loop-again c =
+    let c3 = c .before .before .before in
+    let l = c3 .before .before .before .args .bytes .now in (
+      omega arith,
+      one-more noPad 4 (λ j. padIn (drop (1552 * j) l)) (c3 .loop .i) _ _ (c3 .loop .inv .1) (omega arith)
+          (c .pad-in2 .ensures ∙ ap padIn (rest-part l (1552 * c3 .loop .i))),
+    )
+
+returns : tie.Need-returns Inv-loop μ-loop
+unfolding decode
+returns c =
+    let c1 = c .before in
+    let l = c1 .before .before .before .args .bytes .now in
+    tabulated noPad 4 (c1 .loop .i) (λ j. padIn (drop (1552 * j) l)) (c1 .loop .pads) (omega arith) (c1 .loop .inv .1)
+
+pub pads-in-spec : {M : Type 1} → statement M
+pads-in-spec =
+    tie.close
+    (tie.spec
+    Inv-loop
+    μ-loop
+    pad-in-requires
+    loop-holds
+    mul-at
+    sub-pad-in
+    part-pad-in-start
+    part-pad-in-end
+    pad-in-requires-2
+    mul-pads
+    array-set-from-pads
+    add-i
+    loop-less
+    loop-again
+    returns)

@@ -1,0 +1,77 @@
+use Rattle.rights.specs.Rules.{rightsOf}
+use Rattle.image.specs.Image.{kindOf, ticketIn}
+use Prim.Native.Nat.{ℕ, _+_, _-_, _*_, _≤_, _<_}
+use mathlib.Core.Path.{_≡_, refl, sym, ap, subst, _∙_}
+use native.Mathlib.Omega.{arith}
+use borrow.Author.Needs.{needs}
+use lib.ListN.{length, getD, set}
+use Rattle.decode.proofs.ticket_in.Statement.{statement}
+use Rattle.decode.proofs.ticket_in.Tie as tie
+use Rattle.decode.proofs.ticket_in.Reads as reads
+use Rattle.decode.proofs.ticket_in.Lts as lts
+use Rattle.decode.proofs.kind_of.Reads as kind-of-reads
+use Rattle.decode.proofs.name_at.Reads as name-at-reads
+use Rattle.decode.proofs.number_at.Reads as number-at-reads
+use Rattle.rights.proofs.Rights.make.Reads as make-reads
+
+number-at-requires : tie.Need-number-at-requires
+number-at-requires c κs = search needs
+
+kind-of-requires : tie.Need-kind-of-requires
+kind-of-requires c κs = search needs
+
+name-at-requires : tie.Need-name-at-requires
+name-at-requires c κs = search needs
+
+name-at-requires-2 : tie.Need-name-at-requires-2
+name-at-requires-2 c κs = search needs
+
+number-at-requires-2 : tie.Need-number-at-requires-2
+number-at-requires-2 c κs = search needs
+
+make-requires : tie.Need-make-requires
+make-requires c κs = search needs
+
+number-at-requires-3 : tie.Need-number-at-requires-3
+number-at-requires-3 c κs = search needs
+
+number-at-requires-4 : tie.Need-number-at-requires-4
+number-at-requires-4 c κs = search needs
+
+number-at-requires-5 : tie.Need-number-at-requires-5
+number-at-requires-5 c κs = search needs
+
+number-at-requires-6 : tie.Need-number-at-requires-6
+number-at-requires-6 c κs = search needs
+
+returns : tie.Need-returns
+unfolding ticketIn
+returns c =
+    let c4 = c .before .before .before .before in
+    let c8 = c4 .before .before .before .before in
+    λ i. record {
+      kind = (c8 .kind-of .ensures ∙ ap kindOf (c8 .before .number-at .ensures)) i;
+      number = c .before .before .before .number-at3 .ensures i;
+      own = c .before .before .number-at4 .ensures i;
+      other = c4 .before .before .before .name-at .ensures i;
+      first = c .before .number-at5 .ensures i;
+      count = c .number-at6 .ensures i;
+      rights = (c4 .make .ensures ∙ ap rightsOf (c4 .before .number-at2 .ensures)) i;
+      dock = c4 .before .before .name-at2 .ensures i;
+    }
+
+pub ticket-in-spec : {M : Type 1} → statement M
+ticket-in-spec =
+    tie.close
+    (tie.spec
+    number-at-requires
+    kind-of-requires
+    name-at-requires
+    name-at-requires-2
+    number-at-requires-2
+    make-requires
+    number-at-requires-3
+    number-at-requires-4
+    number-at-requires-5
+    number-at-requires-6
+    returns)

@@ -1,0 +1,95 @@
+use Rattle.image.proofs.Lengths.{program-long}
+use Rattle.image.proofs.PartLaws.{Written, written-none, written-more, written-all}
+use Rattle.image.specs.Image.{programBytes, padBytes}
+use Rattle.tables.specs.Names.{noProgram}
+use Prim.Native.Nat.{ℕ, _+_, _-_, _*_, _≤_, _<_}
+use mathlib.Core.Path.{_≡_, refl, sym, ap, subst, _∙_}
+use native.Mathlib.Omega.{arith}
+use borrow.Author.Needs.{needs}
+use lib.ListN.{length, getD, set}
+use Rattle.encode.proofs.put_pad.Statement.{statement}
+use Rattle.encode.proofs.put_pad.Tie as tie
+use Rattle.encode.proofs.put_pad.Reads as reads
+use Rattle.encode.proofs.put_pad.Lts as lts
+use Rattle.encode.proofs.put_program.Reads as put-program-reads
+
+abbrev Inv-loop : tie.InvT-loop
+Inv-loop bytes₀ p i₀ bytes i = (i ≤ 8) × Written 194 (λ j. programBytes (getD (p .programs) j noProgram)) bytes₀ i bytes
+
+abbrev μ-loop : tie.MeasureT-loop
+μ-loop bytes₀ p i₀ bytes i = 8 - i
+
+loop-holds : tie.Need-loop-holds Inv-loop μ-loop
+loop-holds c = (omega arith, written-none 194 (λ j. programBytes (getD (c .before .args .t2 .programs) j noProgram)) _)
+
+mul-at : tie.Need-mul-at Inv-loop μ-loop
+mul-at c = search needs
+
+add-end : tie.Need-add-end Inv-loop μ-loop
+add-end c = search needs
+
+mul-q : tie.Need-mul-q Inv-loop μ-loop
+mul-q c = search needs
+
+element-copy-out-q : tie.Need-element-copy-out-q Inv-loop μ-loop
+element-copy-out-q c = search needs
+
+sub-put-program : tie.Need-sub-put-program Inv-loop μ-loop
+sub-put-program c = search needs
+
+part-put-program-start : tie.Need-part-put-program-start Inv-loop μ-loop
+part-put-program-start c = search needs
+
+part-put-program-end : tie.Need-part-put-program-end Inv-loop μ-loop
+part-put-program-end c = omega (arith, c .before .before .loop .inv .1 .size)
+
+put-program-requires : tie.Need-put-program-requires Inv-loop μ-loop
+put-program-requires c κs = search needs
+
+add-i : tie.Need-add-i Inv-loop μ-loop
+add-i c = search needs
+
+loop-less : tie.Need-loop-less Inv-loop μ-loop
+loop-less c = search needs
+
+loop-again : tie.Need-loop-again Inv-loop μ-loop
+loop-again c =
+    let c2 = c .before .before in
+    let c6 = c2 .before .before .before .before in
+    let a = c6 .before .before .args in
+    let i = c6 .loop .i in (
+      omega arith,
+      written-more 194 (λ j. programBytes (getD (a .t2 .programs) j noProgram)) (a .bytes .now) i _ (c6 .loop .inv .1) _ (194 * i + 194 - 194 * i) _ refl (omega arith)
+          (program-long _) (omega (arith, c6 .before .before .pre, c2 .before .before .before .loop-test .taken)) (c2 .put-program .ensures),
+    )
+
+same-length : tie.Need-same-length Inv-loop μ-loop
+same-length c = c .before .loop .inv .1 .size
+
+returns : tie.Need-returns Inv-loop μ-loop
+unfolding padBytes
+returns c =
+    let h = c .before in
+    let a = h .before .before .args in
+    written-all 194 (λ j. programBytes (getD (a .t2 .programs) j noProgram)) (a .bytes .now) (h .loop .i) _ (h .loop .inv .1) 8 (omega arith) (h .before .before .pre)
+
+pub put-pad-spec : {M : Type 1} → statement M
+put-pad-spec =
+    tie.close
+    (tie.spec
+    Inv-loop
+    μ-loop
+    loop-holds
+    mul-at
+    add-end
+    mul-q
+    element-copy-out-q
+    sub-put-program
+    part-put-program-start
+    part-put-program-end
+    put-program-requires
+    add-i
+    loop-less
+    loop-again
+    same-length
+    returns)

@@ -1,0 +1,46 @@
+use mathlib.Core.List.{[], _∷_}
+use Rattle.image.specs.Image.{ticketNumbers, ticketBytes}
+use Rattle.image.specs.Numbers.{bytesOf}
+use Prim.Native.Nat.{ℕ, _+_, _-_, _*_, _≤_, _<_}
+use mathlib.Core.Path.{_≡_, refl, sym, ap, subst, _∙_}
+use native.Mathlib.Omega.{arith}
+use borrow.Author.Needs.{needs}
+use lib.ListN.{length, getD, set}
+use Rattle.encode.proofs.put_ticket.Statement.{statement}
+use Rattle.encode.proofs.put_ticket.Tie as tie
+use Rattle.encode.proofs.put_ticket.Reads as reads
+use Rattle.encode.proofs.put_ticket.Lts as lts
+use Rattle.encode.proofs.kind_number.Reads as kind-number-reads
+use Rattle.encode.proofs.put_numbers.Reads as put-numbers-reads
+
+kind-number-requires : tie.Need-kind-number-requires
+kind-number-requires c κs = search needs
+
+slice-aggregate-put-numbers : tie.Need-slice-aggregate-put-numbers
+slice-aggregate-put-numbers c = search needs
+
+put-numbers-requires : tie.Need-put-numbers-requires
+put-numbers-requires c κs = search needs
+
+same-length : tie.Need-same-length
+same-length c = search needs
+
+returns : tie.Need-returns
+unfolding ticketBytes ticketNumbers
+returns c =
+    let c2 = c .before .before in
+    let c5 = c2 .before .before .before in
+    let k = c5 .before .before .before .before .before .args .k in
+    c2 .put-numbers .ensures
+    ∙ (λ i. bytesOf (c5 .kind-number .ensures i ∷ k .number ∷ k .own ∷ k .other .pad ∷ k .other .program ∷ k .other .number ∷ k .first
+    ∷ k .count ∷ k .rights .bits ∷ k .dock .pad ∷ k .dock .program ∷ k .dock .number ∷ []))
+
+pub put-ticket-spec : {M : Type 1} → statement M
+put-ticket-spec =
+    tie.close
+    (tie.spec
+    kind-number-requires
+    slice-aggregate-put-numbers
+    put-numbers-requires
+    same-length
+    returns)

@@ -1,0 +1,3 @@
+pub mod Parts
+pub mod Numbers
+pub mod Image
