@@ -1,3 +1,4 @@
 pub mod PartLaws
 pub mod NumberLaws
 pub mod Lengths
+pub mod RoundTrip

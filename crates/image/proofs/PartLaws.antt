@@ -152,3 +152,42 @@ pub tail-put : {A : Type 0} (now front tail : List A) (a k : ℕ) → take a now
 tail-put now front tail a k e long =
     let none : drop k (drop a now) ≡ [] = drop-drop k a now ∙ ap (λ (m : ℕ). drop m now) (sym long) ∙ drop-length now in
     (λ i. e i ++ (tail ++ none i)) ∙ ap (λ (l : List _). front ++ l) (append-nil tail)
+
+-- ---- what a list begins with
+module _ {A : Type 0} where
+  pub begins-all : (l : List A) → Begins l l
+  begins-all l = record { rest = []; same = sym (append-nil l) }
+
+  module _ (a b l : List A) (it : Begins (a ++ b) l) where
+    both : l ≡ a ++ (b ++ it .rest)
+    both = it .same ∙ append-assoc a b (it .rest)
+
+    pub begins-front : Begins a l
+    begins-front = record { rest = b ++ it .rest; same = both }
+
+    pub begins-behind : (n : ℕ) → length a ≡ n → Begins b (drop n l)
+    begins-behind n long = record { rest = it .rest; same = ap (drop n) both ∙ drop-at a (b ++ it .rest) n long }
+
+-- ---- n elements, each written as a part of width w and read from a list that begins with its part
+module _ {A B : Type 0} (w n : ℕ) (part : A → List B) (d : A) where
+  abbrev partAt : List A → ℕ → List B
+  partAt l i = part (getD l i d)
+
+  pub part-begins : ((x : A) → length (part x) ≡ w) → (l : List A) (bytes : List B) → Begins (joined n (partAt l)) bytes
+      → (i : ℕ) → i < n → Begins (partAt l i) (drop (w * i) bytes)
+  part-begins wide l bytes it i h = rw (it .same) (joined-begins w (partAt l) n i (λ j low. wide (getD l j d)) h (it .rest))
+
+  module _ (read : List B → A) where
+    abbrev readAt : List B → ℕ → A
+    readAt bytes i = read (drop (w * i) bytes)
+
+    pub parts-back : ((x : A) → length (part x) ≡ w) → (l : List A) (bytes : List B) → Begins (joined n (partAt l)) bytes → length l ≡ n
+        → ((i : ℕ) → i < n → Begins (partAt l i) (drop (w * i) bytes) → readAt bytes i ≡ getD l i d) → tabulate n (readAt bytes) ≡ l
+    parts-back wide l bytes it long back =
+        sym (tabulated d n n (readAt bytes) l (omega arith)
+        (record { long = long; same = λ i h. sym (back i h (part-begins wide l bytes it i h)) }))
+
+    pub parts-cut : (bytes : List B) → ((i : ℕ) → i < n → part (readAt bytes i) ≡ take w (drop (w * i) bytes))
+        → joined n (partAt (tabulate n (readAt bytes))) ≡ take (w * n) bytes
+    parts-cut bytes cut =
+        joined-cut w (partAt (tabulate n (readAt bytes))) n bytes (λ i h. ap part (getD-tabulate n (readAt bytes) i d h) ∙ cut i h)

@@ -1,0 +1,186 @@
+use Rattle.batch.proofs.Steps.{Going, begins, next, ends}
+use Rattle.batch.specs.Sequence.{beginsWith}
+use Rattle.batch.specs.Numbers.{requestIn, countOf}
+use Rattle.tables.proofs.Fits.{tables-fit, tables-sized}
+use Rattle.lists.proofs.Front.{rest-part}
+use lib.ListN.{length-take, length-drop}
+use Prim.Native.Nat.{ℕ, _+_, _-_, _*_, _≤_, _<_}
+use mathlib.Core.Path.{_≡_, refl, sym, ap, subst, _∙_}
+use native.Mathlib.Omega.{arith}
+use borrow.Author.Needs.{needs}
+use lib.ListN.{length, getD, set}
+use Rattle.batch.proofs.serve_all.Statement.{statement}
+use Rattle.batch.proofs.serve_all.Tie as tie
+use Rattle.batch.proofs.serve_all.Reads as reads
+use Rattle.batch.proofs.serve_all.Lts as lts
+use Rattle.batch.proofs.put_answer.Reads as put-answer-reads
+use Rattle.batch.proofs.request_in.Reads as request-in-reads
+use Rattle.batch.proofs.serve_one.Reads as serve-one-reads
+
+abbrev Inv-loop : tie.InvT-loop
+Inv-loop store₀ sheets₀ requests answers₀ keeps n t₀ sure₀ i₀ store sheets answers t sure i = Going (beginsWith t₀ store₀ sheets₀ requests) n answers₀ keeps i t store sheets answers sure
+
+abbrev μ-loop : tie.MeasureT-loop
+μ-loop store₀ sheets₀ requests answers₀ keeps n t₀ sure₀ i₀ store sheets answers t sure i = n - i
+
+loop-holds : tie.Need-loop-holds Inv-loop μ-loop
+loop-holds c =
+    let s = c .before .before .before .before in
+    let a = s .args in
+    begins (beginsWith (a .start) (a .store .now) (a .sheets .now) (a .requests .now)) (countOf (a .requests .now)) (a .answers .now) (a .keeps)
+    (s .pre .0 .store) (tables-sized (a .start) (tables-fit (a .start) (_, s .good .0))) (s .pre .1 .0) (s .pre .1 .1)
+
+mul-from : tie.Need-mul-from Inv-loop μ-loop
+mul-from c = search needs
+
+mul-request-in : tie.Need-mul-request-in Inv-loop μ-loop
+mul-request-in c = search needs
+
+sub-request-in : tie.Need-sub-request-in Inv-loop μ-loop
+sub-request-in c = search needs
+
+part-request-in-start : tie.Need-part-request-in-start Inv-loop μ-loop
+part-request-in-start c = search needs
+
+part-request-in-end : tie.Need-part-request-in-end Inv-loop μ-loop
+part-request-in-end c = search needs
+
+request-in-requires : tie.Need-request-in-requires Inv-loop μ-loop
+request-in-requires c κs = search needs
+
+mul-at : tie.Need-mul-at Inv-loop μ-loop
+mul-at c = search needs
+
+add-end : tie.Need-add-end Inv-loop μ-loop
+add-end c = search needs
+
+sub-serve-one : tie.Need-sub-serve-one Inv-loop μ-loop
+sub-serve-one c = search needs
+
+part-serve-one-start : tie.Need-part-serve-one-start Inv-loop μ-loop
+part-serve-one-start c = search needs
+
+part-serve-one-end : tie.Need-part-serve-one-end Inv-loop μ-loop
+part-serve-one-end c =
+    let h = c .before .before .before .before in
+    omega (arith, h .loop .inv .sheets .size, h .before .before .before .before .before .pre .0 .sheets, c .before .before .before .loop-test .taken)
+
+serve-one-requires : tie.Need-serve-one-requires Inv-loop μ-loop
+serve-one-requires c κs =
+    let h = c .before .before .before .before .before in
+    (
+      record {
+        store = h .loop .inv .long;
+        sheet = simp (length-take, length-drop) (omega (arith, h .loop .inv .sheets .size, h .before .before .before .before .before .pre .0 .sheets, c .before .before .before .before .loop-test .taken));
+      },
+      h .loop .inv .ordered,
+    )
+
+mul-into : tie.Need-mul-into Inv-loop μ-loop
+mul-into c =
+    let c11 = c .before .before .before .before .before .before .before .before .before .before .before in
+    let s = c11 .before .before .before .before .before .before in
+    omega (arith, c11 .loop-test .taken, s .pre .0 .answers)
+
+add-upto : tie.Need-add-upto Inv-loop μ-loop
+add-upto c =
+    let c11 = c .before .before .before .before .before .before .before .before .before .before .before in
+    let s = c11 .before .before .before .before .before .before in
+    omega (arith, c11 .loop-test .taken, s .pre .0 .answers)
+
+mul-put-answer : tie.Need-mul-put-answer Inv-loop μ-loop
+mul-put-answer c =
+    let c11 = c .before .before .before .before .before .before .before .before .before .before .before in
+    let s = c11 .before .before .before .before .before .before in
+    omega (arith, c11 .loop-test .taken, s .pre .0 .answers)
+
+sub-put-answer : tie.Need-sub-put-answer Inv-loop μ-loop
+sub-put-answer c = search needs
+
+part-put-answer-start : tie.Need-part-put-answer-start Inv-loop μ-loop
+part-put-answer-start c = search needs
+
+part-put-answer-end : tie.Need-part-put-answer-end Inv-loop μ-loop
+part-put-answer-end c =
+    let c12 = c .before .before .before .before .before .before .before .before .before .before .before .before in
+    let s = c12 .before .before .before .before .before in
+    omega (arith, c12 .loop .inv .answers .size, s .pre .0 .answers, c .before .before .before .before .before .before .before .before .before .before .before .loop-test .taken)
+
+put-answer-requires : tie.Need-put-answer-requires Inv-loop μ-loop
+put-answer-requires c κs = search needs
+
+add-i : tie.Need-add-i Inv-loop μ-loop
+add-i c =
+    let c15 = c .before .before .before .before .before .before .before .before .before .before .before .before .before .before .before in
+    omega (arith, c15 .loop-test .taken)
+
+loop-less : tie.Need-loop-less Inv-loop μ-loop
+loop-less c = search needs
+
+loop-again : tie.Need-loop-again Inv-loop μ-loop
+loop-again c =
+    let c2 = c .before .before in
+    let c7 = c2 .before .before .before .before .before in
+    let c10 = c7 .before .before .before in
+    let c13 = c10 .before .before .before in
+    let h = c13 .before .before .before in
+    let s = h .before .before .before .before .before in
+    let a = s .args in
+    let i = h .loop .i in
+    next _ _ _ _ _ _ _ _ _ _ (h .loop .inv) (64 * i + 64 - 64 * i) (omega arith) _
+    (c13 .request-in .ensures ∙ ap requestIn (rest-part (a .requests .now) (9 * i))) (c10 .serve-one .result) _ _ (c10 .serve-one .ensures)
+    (3 * i + 3 - 3 * i) _ (c10 .serve-one .kept .1 .0 ∙ h .loop .inv .long)
+    (c10 .serve-one .kept .1 .1 .0 ∙ simp (length-take, length-drop) (omega (arith, h .loop .inv .sheets .size, s .pre .0 .sheets, c13 .before .before .loop-test .taken)))
+    (c13 .before .before .loop-test .taken) (s .pre .0 .sheets) (s .pre .0 .answers) (omega arith)
+    (c2 .put-answer .ensures)
+
+same-length : tie.Need-same-length Inv-loop μ-loop
+same-length c =
+    let h = c .before in
+    h .loop .inv .long ∙ sym (h .before .before .before .before .before .pre .0 .store)
+
+same-length-2 : tie.Need-same-length-2 Inv-loop μ-loop
+same-length-2 c = c .before .loop .inv .sheets .size
+
+same-length-3 : tie.Need-same-length-3 Inv-loop μ-loop
+same-length-3 c = c .before .loop .inv .answers .size
+
+returns : tie.Need-returns Inv-loop μ-loop
+returns c =
+    let h = c .before in
+    let s = h .before .before .before .before .before in
+    ends _ _ _ _ _ _ _ _ _ _ (h .loop .inv) (omega (arith, c .loop-test .left)) (s .pre .0 .sheets) (s .pre .0 .answers)
+
+pub serve-all-spec : {M : Type 1} → statement M
+serve-all-spec =
+    tie.close
+    (tie.spec
+    Inv-loop
+    μ-loop
+    loop-holds
+    mul-from
+    mul-request-in
+    sub-request-in
+    part-request-in-start
+    part-request-in-end
+    request-in-requires
+    mul-at
+    add-end
+    sub-serve-one
+    part-serve-one-start
+    part-serve-one-end
+    serve-one-requires
+    mul-into
+    add-upto
+    mul-put-answer
+    sub-put-answer
+    part-put-answer-start
+    part-put-answer-end
+    put-answer-requires
+    add-i
+    loop-less
+    loop-again
+    same-length
+    same-length-2
+    same-length-3
+    returns)

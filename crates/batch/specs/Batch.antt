@@ -1,0 +1,85 @@
+-- A batch: requests served one after the other over the buffers that a host lends, the tables as their image.
+use Prim.Native.Nat.{ℕ, _*_}
+use mathlib.Core.Path.{_≡_}
+use mathlib.Core.Bool.{Bool, not, _&&_, cond}
+use mathlib.Core.List.{List}
+use lib.Dec.{eqb}
+use lib.ListN.{length}
+use Rattle.tables.specs.Order.{inOrder}
+use Rattle.machine.specs.Refusal.{_when_else_}
+use Rattle.image.specs.Image.{encode, decode, isImage}
+use Rattle.batch.specs.Numbers.{countOf}
+use Rattle.batch.specs.Sequence.{Begins, met, sheetsOf, answersOf}
+
+-- n requests: 64 n bytes of sheets, 9 n numbers of requests, 3 n of answers
+pub record Buffers : Type 0 where
+  pub tables : List ℕ
+  pub store : List ℕ
+  pub sheets : List ℕ
+  pub requests : List ℕ
+  pub answers : List ℕ
+
+-- ---- when a batch is refused
+unfoldable pub lengthsOk : Buffers → Bool
+lengthsOk b =
+    let n = countOf (b .requests) in
+    eqb (length (b .tables)) 11328 && eqb (length (b .store)) 16384 && eqb (length (b .sheets)) (64 * n)
+    && eqb (length (b .requests)) (9 * n) && eqb (length (b .answers)) (3 * n)
+
+-- the bytes are an image, and its tables are in order
+unfoldable pub tablesOk : List ℕ → Bool
+tablesOk bytes = let order = inOrder (decode bytes) in isImage bytes && order
+
+-- 13 a buffer has another length; 14 the bytes are no tables, or tables that are not in order
+unfoldable pub batchRefusal : Buffers → ℕ
+batchRefusal b =
+    let order = tablesOk (b .tables) in
+    13 when not (lengthsOk b) else
+    14 when not order else
+    0
+
+-- ---- what it leaves; the requests are only read
+pub record Left : Type 0 where
+  pub result : ℕ
+  pub tables : List ℕ
+  pub store : List ℕ
+  pub sheets : List ℕ
+  pub answers : List ℕ
+
+abbrev pub begun : Buffers → Begins
+begun b = record { tables = decode (b .tables); store = b .store; sheets = b .sheets; requests = b .requests }
+
+unfoldable pub allServed : Buffers → Left
+allServed b =
+    let n = countOf (b .requests) in
+    record {
+      result = 0;
+      tables = encode (met (begun b) n .tables);
+      store = met (begun b) n .store;
+      sheets = sheetsOf (begun b) n;
+      answers = answersOf (begun b) n;
+    }
+
+unfoldable pub untouched : Buffers → ℕ → Left
+untouched b result = record { result = result; tables = b .tables; store = b .store; sheets = b .sheets; answers = b .answers }
+
+-- a batch that is refused changes nothing
+unfoldable pub batch : Buffers → Left
+batch b =
+    let refusal = batchRefusal b in
+    let served = allServed b in
+    let refused = untouched b refusal in
+    cond (eqb refusal 0) served refused
+
+-- ---- contracts
+abbrev pub buffersOf : List ℕ → List ℕ → List ℕ → List ℕ → List ℕ → Buffers
+buffersOf tables store sheets requests answers =
+    record { tables = tables; store = store; sheets = sheets; requests = requests; answers = answers }
+
+-- what a call leaves, field by field
+pub record Leaves (l : Left) (result′ : ℕ) (tables′ store′ sheets′ answers′ : List ℕ) : Type 0 where
+  pub result : result′ ≡ l .result
+  pub tables : tables′ ≡ l .tables
+  pub store : store′ ≡ l .store
+  pub sheets : sheets′ ≡ l .sheets
+  pub answers : answers′ ≡ l .answers
