@@ -1,5 +1,5 @@
 -- A batch: requests served one after the other over the buffers that a host lends, the tables as their image.
-use Prim.Native.Nat.{ℕ, _*_}
+use Prim.Native.Nat.{ℕ, _*_, _/_}
 use mathlib.Core.Path.{_≡_}
 use mathlib.Core.Bool.{Bool, not, _&&_, cond}
 use mathlib.Core.List.{List}
@@ -20,11 +20,14 @@ pub record Buffers : Type 0 where
   pub answers : List ℕ
 
 -- ---- when a batch is refused
-unfoldable pub lengthsOk : Buffers → Bool
-lengthsOk b =
-    let n = countOf (b .requests) in
-    eqb (length (b .tables)) 11328 && eqb (length (b .store)) 16384 && eqb (length (b .sheets)) (64 * n)
-    && eqb (length (b .requests)) (9 * n) && eqb (length (b .answers)) (3 * n)
+-- the lengths go with one number of requests
+unfoldable pub lengthsFit : ℕ → ℕ → ℕ → ℕ → ℕ → Bool
+lengthsFit tables store sheets requests answers =
+    let n = requests / 9 in
+    eqb tables 11328 && eqb store 16384 && eqb sheets (64 * n) && eqb requests (9 * n) && eqb answers (3 * n)
+
+abbrev pub lengthsOk : Buffers → Bool
+lengthsOk b = lengthsFit (length (b .tables)) (length (b .store)) (length (b .sheets)) (length (b .requests)) (length (b .answers))
 
 -- the bytes are an image, and its tables are in order
 unfoldable pub tablesOk : List ℕ → Bool
@@ -76,10 +79,11 @@ abbrev pub buffersOf : List ℕ → List ℕ → List ℕ → List ℕ → List 
 buffersOf tables store sheets requests answers =
     record { tables = tables; store = store; sheets = sheets; requests = requests; answers = answers }
 
--- what a call leaves, field by field
-pub record Leaves (l : Left) (result′ : ℕ) (tables′ store′ sheets′ answers′ : List ℕ) : Type 0 where
-  pub result : result′ ≡ l .result
-  pub tables : tables′ ≡ l .tables
-  pub store : store′ ≡ l .store
-  pub sheets : sheets′ ≡ l .sheets
-  pub answers : answers′ ≡ l .answers
+-- what a call leaves, field by field; and that the image is read as the tables that the last request left
+pub record Leaves (b : Buffers) (result′ : ℕ) (tables′ store′ sheets′ answers′ : List ℕ) : Type 0 where
+  pub result : result′ ≡ batch b .result
+  pub tables : tables′ ≡ batch b .tables
+  pub store : store′ ≡ batch b .store
+  pub sheets : sheets′ ≡ batch b .sheets
+  pub answers : answers′ ≡ batch b .answers
+  pub decoded : result′ ≡ 0 → decode tables′ ≡ met (begun b) (countOf (b .requests)) .tables

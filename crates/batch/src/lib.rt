@@ -10,6 +10,7 @@ ghost use Rattle.served.specs.Outcomes.{stateOf};
 ghost use Rattle.serve.specs.Contract.{Lengths, HandsBack};
 ghost use Rattle.batch.specs.Numbers.{requestIn, countOf, answerNumbers};
 ghost use Rattle.batch.specs.Sequence.{beginsWith, Whole, AllServed};
+ghost use Rattle.batch.specs.Batch.{lengthsFit, buffersOf, Leaves};
 use machine::Answer;
 use machine::Request;
 use machine::Served;
@@ -65,7 +66,14 @@ fn serve_one(t: Tables, store: &mut [u8], sheet: &mut [u8], r: Request, sure: bo
 
 // The requests one after the other, from tables in order. The first needs no other test of that. Nor do those behind it where `keeps`
 // says that the tables stay in order.
-fn serve_all(start: Tables, store: &mut [u8], sheets: &mut [u8], requests: &[u16], answers: &mut [u16], keeps: bool) -> Tables
+fn serve_all(
+    start: Tables,
+    store: &mut [u8],
+    sheets: &mut [u8],
+    requests: &[u16],
+    answers: &mut [u16],
+    keeps: bool,
+) -> Tables
     requires { ⌜ Whole (countOf (now requests)) (now store) (now sheets) (now requests) (now answers) × (inOrder start ≡ true × (keeps ≡ true → noFarChild start ≡ true)) ⌝ }
     ensures { λ t. ⌜ AllServed (beginsWith start (now (store .entry)) (now (sheets .entry)) (now (requests .entry))) (countOf (now (requests .entry))) t (now (store .exit)) (now (sheets .exit)) (now (answers .exit)) ⌝ }
 {
@@ -88,4 +96,72 @@ fn serve_all(start: Tables, store: &mut [u8], sheets: &mut [u8], requests: &[u16
         i = i + 1;
     }
     t
+}
+
+// Do the lengths go with one number of requests?
+fn lengths_ok(tables: usize, store: usize, sheets: usize, requests: usize, answers: usize) -> bool
+    ensures { λ r. ⌜ r ≡ lengthsFit tables store sheets requests answers ⌝ }
+{
+    let n = requests / REQUEST;
+    if tables != TABLES {
+        return false;
+    }
+    if store != STORE {
+        return false;
+    }
+    if sheets % SHEET != 0 {
+        return false;
+    }
+    if sheets / SHEET != n {
+        return false;
+    }
+    if requests % REQUEST != 0 {
+        return false;
+    }
+    if answers % ANSWER != 0 {
+        return false;
+    }
+    answers / ANSWER == n
+}
+
+// Is it known that the tables stay in order? For one request nobody has to know.
+fn stays_in_order(t: Tables, numbers: usize) -> bool
+    ensures { λ r. ⌜ (r ≡ true → noFarChild t ≡ true) ⌝ }
+{
+    if numbers <= REQUEST {
+        return false;
+    }
+    order::no_far_child(t)
+}
+
+// 13, 14, or the requests one after the other. A batch that is refused changes nothing.
+pub fn serve(
+    tables: &mut [u8],
+    store: &mut [u8],
+    sheets: &mut [u8],
+    requests: &[u16],
+    answers: &mut [u16],
+) -> u16
+    ensures { λ r. ⌜ Leaves (buffersOf (now (tables .entry)) (now (store .entry)) (now (sheets .entry)) (now (requests .entry)) (now (answers .entry))) r (now (tables .exit)) (now (store .exit)) (now (sheets .exit)) (now (answers .exit)) ⌝ }
+{
+    if !lengths_ok(
+        tables.len(),
+        store.len(),
+        sheets.len(),
+        requests.len(),
+        answers.len(),
+    ) {
+        return 13;
+    }
+    if !decode::is_image(tables) {
+        return 14;
+    }
+    let t = decode::tables(tables);
+    if !order::in_order(t) {
+        return 14;
+    }
+    let keeps = stays_in_order(t, requests.len());
+    let left = serve_all(t, store, sheets, requests, answers, keeps);
+    encode::tables(tables, left);
+    0
 }

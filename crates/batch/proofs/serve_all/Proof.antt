@@ -67,8 +67,7 @@ part-serve-one-end c =
 
 serve-one-requires : tie.Need-serve-one-requires Inv-loop μ-loop
 serve-one-requires c κs =
-    let h = c .before .before .before .before .before in
-    (
+    let h = c .before .before .before .before .before in (
       record {
         store = h .loop .inv .long;
         sheet = simp (length-take, length-drop) (omega (arith, h .loop .inv .sheets .size, h .before .before .before .before .before .pre .0 .sheets, c .before .before .before .before .loop-test .taken));

@@ -1,0 +1,120 @@
+-- What the batch leaves where it is refused, and where all of it was served.
+use Prim.Native.Nat.{ℕ, _*_, _/_, _%_}
+use native.Mathlib.Omega.{arith}
+use mathlib.Core.Path.{_≡_, refl, sym, ap, subst, _∙_}
+use mathlib.Core.Bool.{Bool, true, false, not, _&&_}
+use mathlib.Core.List.{List}
+use lib.Dec.{eqb}
+use lib.ListN.{length}
+use borrow.Author.Tests.{eqb-true, eqb-false, eq-eqb, ne-eqb, not-true, not-false}
+use Rattle.lists.proofs.Tests.{Case, pass, fail, case, and-l, and-r, and-false}
+use Rattle.tables.specs.declared.Tables.{Tables}
+use Rattle.tables.specs.Lookup.{Sized}
+use Rattle.tables.specs.Order.{inOrder}
+use Rattle.machine.specs.Refusal.{_when_else_}
+use Rattle.image.specs.Image.{encode, decode, isImage}
+use Rattle.image.proofs.RoundTrip.{decode-encode}
+use Rattle.batch.specs.Numbers.{countOf}
+use Rattle.batch.specs.Sequence.{beginsWith, Whole, AllServed}
+use Rattle.batch.specs.Batch.{Buffers, lengthsFit, lengthsOk, tablesOk, batchRefusal, begun, allServed, untouched, batch, Leaves}
+
+-- ---- a test in the code, by what its routine ensures
+pub passed : {r b : Bool} → r ≡ b → not r ≡ false → b ≡ true
+passed {r} e n = sym e ∙ not-false r n
+
+pub failed : {r b : Bool} → r ≡ b → not r ≡ true → b ≡ false
+failed {r} e n = sym e ∙ not-true r n
+
+-- ---- lengths
+pub record Fit (tables′ store′ sheets′ requests′ answers′ : ℕ) : Type 0 where
+  pub tables : tables′ ≡ 11328
+  pub store : store′ ≡ 16384
+  pub sheets : sheets′ ≡ 64 * (requests′ / 9)
+  pub requests : requests′ ≡ 9 * (requests′ / 9)
+  pub answers : answers′ ≡ 3 * (requests′ / 9)
+
+pub fit : (a b c d e : ℕ) → lengthsFit a b c d e ≡ true → Fit a b c d e
+unfolding lengthsFit
+fit a b c d e h = record {
+  tables = eqb-true a 11328 (search (and-l, and-r) depth 8);
+  store = eqb-true b 16384 (search (and-l, and-r) depth 8);
+  sheets = eqb-true c (64 * (d / 9)) (search (and-l, and-r) depth 8);
+  requests = eqb-true d (9 * (d / 9)) (search (and-l, and-r) depth 8);
+  answers = eqb-true e (3 * (d / 9)) (search (and-l, and-r) depth 8);
+}
+
+pub whole : (b : Buffers) → lengthsOk b ≡ true → Whole (countOf (b .requests)) (b .store) (b .sheets) (b .requests) (b .answers)
+whole b h =
+    let f = fit (length (b .tables)) (length (b .store)) (length (b .sheets)) (length (b .requests)) (length (b .answers)) h in
+    record { store = f .store; sheets = f .sheets; requests = f .requests; answers = f .answers }
+
+-- a multiple of three is so many threes
+pub by-thirds : (answers n : ℕ) → answers % 3 ≡ 0 → eqb (answers / 3) n ≡ eqb answers (3 * n)
+by-thirds answers n h = go (case (eqb answers (3 * n)))
+  where
+    go : Case (eqb answers (3 * n)) → eqb (answers / 3) n ≡ eqb answers (3 * n)
+    go (pass e) = let q = eqb-true answers (3 * n) e in rw (e, eq-eqb (answers / 3) n (omega (arith, q)))
+    go (fail e) = rw (e, ne-eqb (answers / 3) n (λ q. eqb-false answers (3 * n) e (omega (arith, q, h))))
+
+-- ---- a batch that is refused
+is-refused : (b : Buffers) (n : ℕ) → batchRefusal b ≡ n → (n ≡ 0 → ⊥) → untouched b n ≡ batch b
+unfolding batch
+is-refused b n e ne = rw (e, ne-eqb n 0 ne)
+
+refused-leaves : (b : Buffers) (n : ℕ) → batchRefusal b ≡ n → (n ≡ 0 → ⊥) → Leaves b n (b .tables) (b .store) (b .sheets) (b .answers)
+unfolding untouched
+refused-leaves b n e ne =
+    let is = is-refused b n e ne in
+    record {
+      result = λ i. is i .result;
+      tables = λ i. is i .tables;
+      store = λ i. is i .store;
+      sheets = λ i. is i .sheets;
+      answers = λ i. is i .answers;
+      decoded = λ z. absurd (ne z);
+    }
+
+pub leaves-13 : (b : Buffers) → lengthsOk b ≡ false → Leaves b 13 (b .tables) (b .store) (b .sheets) (b .answers)
+unfolding batchRefusal _when_else_
+leaves-13 b e = refused-leaves b 13 (rw e) (λ z. omega arith)
+
+pub leaves-14 : (b : Buffers) → lengthsOk b ≡ true → tablesOk (b .tables) ≡ false → Leaves b 14 (b .tables) (b .store) (b .sheets) (b .answers)
+unfolding batchRefusal _when_else_
+leaves-14 b h e = refused-leaves b 14 (rw (h, e)) (λ z. omega arith)
+
+pub no-image : (bytes : List ℕ) → isImage bytes ≡ false → tablesOk bytes ≡ false
+unfolding tablesOk
+no-image bytes e = rw e
+
+pub out-of-order : (bytes : List ℕ) → inOrder (decode bytes) ≡ false → tablesOk bytes ≡ false
+unfolding tablesOk
+out-of-order bytes e = rw e (and-false (isImage bytes))
+
+pub tables-ok : (bytes : List ℕ) → isImage bytes ≡ true → inOrder (decode bytes) ≡ true → tablesOk bytes ≡ true
+unfolding tablesOk
+tables-ok bytes e h = rw (e, h)
+
+-- ---- a batch that was served
+is-served : (b : Buffers) → lengthsOk b ≡ true → tablesOk (b .tables) ≡ true → allServed b ≡ batch b
+unfolding batch batchRefusal _when_else_
+is-served b h o = rw (h, o)
+
+pub leaves-0 : (b : Buffers) → lengthsOk b ≡ true → tablesOk (b .tables) ≡ true → (t : Tables) → Sized t
+    → (start : Tables) → start ≡ decode (b .tables) → (tables′ store′ sheets′ answers′ : List ℕ)
+    → AllServed (beginsWith start (b .store) (b .sheets) (b .requests)) (countOf (b .requests)) t store′ sheets′ answers′
+    → tables′ ≡ encode t → Leaves b 0 tables′ store′ sheets′ answers′
+unfolding allServed
+leaves-0 b h o t sized start read tables′ store′ sheets′ answers′ served e =
+    let is = is-served b h o in
+    let all : AllServed (begun b) (countOf (b .requests)) t store′ sheets′ answers′ =
+    subst
+    (λ (x : Tables). AllServed (beginsWith x (b .store) (b .sheets) (b .requests)) (countOf (b .requests)) t store′ sheets′ answers′)
+    read served in
+    record {
+      result = λ i. is i .result;
+      tables = e ∙ ap encode (all .tables) ∙ λ i. is i .tables;
+      store = all .store ∙ λ i. is i .store;
+      sheets = all .sheets ∙ λ i. is i .sheets;
+      answers = all .answers ∙ λ i. is i .answers;
+      decoded = λ z. ap decode e ∙ decode-encode t sized ∙ all .tables;
+    }

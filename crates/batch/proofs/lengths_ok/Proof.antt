@@ -1,0 +1,60 @@
+use Rattle.batch.proofs.Refusals.{by-thirds}
+use Rattle.batch.specs.Batch.{lengthsFit}
+use borrow.Author.Tests.{eq-eqb, ne-eqb}
+use Prim.Native.Nat.{_/_}
+use Prim.Native.Nat.{ℕ, _+_, _-_, _*_, _≤_, _<_}
+use mathlib.Core.Path.{_≡_, refl, sym, ap, subst, _∙_}
+use native.Mathlib.Omega.{arith}
+use borrow.Author.Needs.{needs}
+use lib.ListN.{length, getD, set}
+use Rattle.batch.proofs.lengths_ok.Statement.{statement}
+use Rattle.batch.proofs.lengths_ok.Tie as tie
+use Rattle.batch.proofs.lengths_ok.Reads as reads
+use Rattle.batch.proofs.lengths_ok.Lts as lts
+
+returns : tie.Need-returns
+unfolding lengthsFit
+returns c =
+    let a = c .before .args in
+    rw (ne-eqb (a .tables) 11328 (c .if1 .taken))
+
+returns-2 : tie.Need-returns-2
+unfolding lengthsFit
+returns-2 c =
+    let a = c .before .before .args in
+    rw (eq-eqb (a .tables) 11328 (c .before .if1 .left), ne-eqb (a .store) 16384 (c .if2 .taken))
+
+returns-3 : tie.Need-returns-3
+unfolding lengthsFit
+returns-3 c =
+    let a = c .before .before .before .args in
+    rw (eq-eqb (a .tables) 11328 (c .before .before .if1 .left), eq-eqb (a .store) 16384 (c .before .if2 .left), ne-eqb (a .sheets) (64 * (a .requests / 9)) (λ e. c .if3 .taken (omega (arith, e))))
+
+returns-4 : tie.Need-returns-4
+unfolding lengthsFit
+returns-4 c =
+    let a = c .before .before .before .before .args in
+    rw (eq-eqb (a .tables) 11328 (c .before .before .before .if1 .left), eq-eqb (a .store) 16384 (c .before .before .if2 .left), ne-eqb (a .sheets) (64 * (a .requests / 9)) (λ e. c .if4 .taken (omega (arith, e))))
+
+returns-5 : tie.Need-returns-5
+unfolding lengthsFit
+returns-5 c =
+    let a = c .before .before .before .before .before .args in
+    rw (eq-eqb (a .tables) 11328 (c .before .before .before .before .if1 .left), eq-eqb (a .store) 16384 (c .before .before .before .if2 .left), eq-eqb (a .sheets) (64 * (a .requests / 9)) (omega (arith, c .before .before .if3 .left, c .before .if4 .left)), ne-eqb (a .requests) (9 * (a .requests / 9)) (λ e. c .if5 .taken (omega (arith, e))))
+
+returns-6 : tie.Need-returns-6
+unfolding lengthsFit
+returns-6 c =
+    let a = c .before .before .before .before .before .before .args in
+    rw (eq-eqb (a .tables) 11328 (c .before .before .before .before .before .if1 .left), eq-eqb (a .store) 16384 (c .before .before .before .before .if2 .left), eq-eqb (a .sheets) (64 * (a .requests / 9)) (omega (arith, c .before .before .before .if3 .left, c .before .before .if4 .left)), eq-eqb (a .requests) (9 * (a .requests / 9)) (omega (arith, c .before .if5 .left)), ne-eqb (a .answers) (3 * (a .requests / 9)) (λ e. c .if6 .taken (omega (arith, e))))
+
+returns-7 : tie.Need-returns-7
+unfolding lengthsFit
+returns-7 c =
+    let a = c .before .before .before .before .before .before .args in
+    rw (eq-eqb (a .tables) 11328 (c .before .before .before .before .before .if1 .left), eq-eqb (a .store) 16384 (c .before .before .before .before .if2 .left), eq-eqb (a .sheets) (64 * (a .requests / 9)) (omega (arith, c .before .before .before .if3 .left, c .before .before .if4 .left)), eq-eqb (a .requests) (9 * (a .requests / 9)) (omega (arith, c .before .if5 .left)))
+    (by-thirds (a .answers) (a .requests / 9) (c .if6 .left))
+
+pub lengths-ok-spec : {M : Type 1} → statement M
+lengths-ok-spec =
+    tie.close (tie.spec returns returns-2 returns-3 returns-4 returns-5 returns-6 returns-7)
