@@ -1,0 +1,2 @@
+pub mod OneRequest
+pub mod Answers

@@ -1,0 +1,39 @@
+use Rattle.host.proofs.Answers.{not-emptied, all-emptied}
+use Prim.Native.Nat.{ℕ, _+_, _-_, _*_, _≤_, _<_}
+use mathlib.Core.Path.{_≡_, refl, sym, ap, subst, _∙_}
+use native.Mathlib.Omega.{arith}
+use borrow.Author.Needs.{needs}
+use lib.ListN.{length, getD, set}
+use Rattle.host.proofs.dock_empty.Statement.{statement}
+use Rattle.host.proofs.dock_empty.Tie as tie
+use Rattle.host.proofs.dock_empty.Reads as reads
+use Rattle.host.proofs.dock_empty.Lts as lts
+use Rattle.encode.proofs.tables.Reads as tables-reads
+use Rattle.step.proofs.empty.Reads as empty-reads
+
+returns : tie.Need-returns
+returns c =
+    let a = c .before .before .before .args in
+    not-emptied (a .tables .now) (a .store .now) (c .if1 .taken)
+
+empty-requires : tie.Need-empty-requires
+empty-requires c κs = search needs
+
+tables-requires : tie.Need-tables-requires
+tables-requires c κs = search needs
+
+same-length : tie.Need-same-length
+same-length c = search needs
+
+same-length-2 : tie.Need-same-length-2
+same-length-2 c = search needs
+
+returns-2 : tie.Need-returns-2
+returns-2 c =
+    let c7 = c .before .before .before .before .before .before .before in
+    let a = c7 .before .before .before .before .before .args in
+    all-emptied (a .tables .now) (a .store .now) (c7 .before .before .if1 .left) _ _ _ (c7 .empty .ensures) (c .before .before .tables .ensures)
+
+pub dock-empty-spec : {M : Type 1} → statement M
+dock-empty-spec =
+    tie.close (tie.spec returns empty-requires tables-requires same-length same-length-2 returns-2)

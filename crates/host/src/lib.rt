@@ -1,0 +1,113 @@
+// The routines that a host in C or Rust calls: include/dock.h declares them. Numbers pass as themselves, a slice as a pointer and then a
+// length. None asks anything of its caller beyond what a slice means: memory of that length, and no overlap.
+ghost use mathlib.Core.Path.{_≡_};
+ghost use Rattle.batch.specs.Batch.{buffersOf, Leaves};
+ghost use Rattle.host.specs.Host.{emptyImage, EmptiesImage, stepImage, Steps, orderOf, checkImage};
+use tables::Name;
+
+// Bytes of the tables' image, of the store and of a sheet; numbers of a request and of an answer.
+const TABLES: usize = 11328;
+
+const REQUEST: usize = 9;
+
+// The length that the tables' image has.
+#[no_mangle]
+pub extern "C" fn dock_tables_length() -> usize
+    ensures { λ r. ⌜ r ≡ 11328 ⌝ }
+{
+    TABLES
+}
+
+// Emptying: the image becomes that of empty tables, the store zeros.
+#[no_mangle]
+pub extern "C" fn dock_empty(tables: &mut [u8], store: &mut [u8]) -> u16
+    ensures { λ r. ⌜ EmptiesImage (emptyImage (now (tables .entry)) (now (store .entry))) r (now (tables .exit)) (now (store .exit)) ⌝ }
+{
+    if tables.len() != TABLES {
+        return 13;
+    }
+    let emptied = step::empty(store);
+    let t = emptied.tables;
+    encode::tables(tables, t);
+    emptied.result
+}
+
+// One request. The answer's first number, its result, comes back too.
+#[no_mangle]
+pub extern "C" fn dock_step(
+    tables: &mut [u8],
+    store: &mut [u8],
+    sheet: &mut [u8],
+    request: &[u16],
+    answer: &mut [u16],
+) -> u16
+    ensures { λ r. ⌜ Steps (stepImage (buffersOf (now (tables .entry)) (now (store .entry)) (now (sheet .entry)) (now (request .entry)) (now (answer .entry)))) r (now (tables .exit)) (now (store .exit)) (now (sheet .exit)) (now (answer .exit)) ⌝ }
+{
+    if request.len() != REQUEST {
+        return 13;
+    }
+    let refusal = batch::serve(tables, store, sheet, request, answer);
+    if refusal != 0 {
+        return refusal;
+    }
+    answer[0]
+}
+
+// Requests one after the other, each as by dock_step.
+#[no_mangle]
+pub extern "C" fn dock_serve(
+    tables: &mut [u8],
+    store: &mut [u8],
+    sheets: &mut [u8],
+    requests: &[u16],
+    answers: &mut [u16],
+) -> u16
+    ensures { λ r. ⌜ Leaves (buffersOf (now (tables .entry)) (now (store .entry)) (now (sheets .entry)) (now (requests .entry)) (now (answers .entry))) r (now (tables .exit)) (now (store .exit)) (now (sheets .exit)) (now (answers .exit)) ⌝ }
+{
+    batch::serve(tables, store, sheets, requests, answers)
+}
+
+// The dock's own check.
+#[no_mangle]
+pub extern "C" fn dock_check(
+    tables: &[u8],
+    pad: u16,
+    program: u16,
+    number: u16,
+    sheet: u16,
+    right: u16,
+) -> u16
+    ensures { λ r. ⌜ r ≡ checkImage (now (tables .entry)) pad program number sheet right ⌝ }
+{
+    if tables.len() != TABLES {
+        return 13;
+    }
+    if !decode::is_image(tables) {
+        return 14;
+    }
+    let t = decode::tables(tables);
+    let n = Name {
+        pad: pad,
+        program: program,
+        number: number,
+    };
+    step::check(t, n, sheet, right)
+}
+
+// Are the tables in order? 0, 13 or 14.
+#[no_mangle]
+pub extern "C" fn dock_in_order(tables: &[u8]) -> u16
+    ensures { λ r. ⌜ r ≡ orderOf (now (tables .entry)) ⌝ }
+{
+    if tables.len() != TABLES {
+        return 13;
+    }
+    if !decode::is_image(tables) {
+        return 14;
+    }
+    let t = decode::tables(tables);
+    if !order::in_order(t) {
+        return 14;
+    }
+    0
+}
