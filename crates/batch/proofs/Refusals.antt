@@ -1,17 +1,17 @@
 -- What the batch leaves where it is refused, and where all of it was served.
 use Prim.Native.Nat.{ℕ, _*_, _/_, _%_}
 use native.Mathlib.Omega.{arith}
-use mathlib.Core.Path.{_≡_, refl, sym, ap, subst, _∙_}
-use mathlib.Core.Bool.{Bool, true, false, not, _&&_}
+use mathlib.Core.Path.{_≡_, sym, ap, subst, _∙_}
+use mathlib.Core.Bool.{Bool, true, false, not}
 use mathlib.Core.List.{List}
 use lib.Dec.{eqb}
 use lib.ListN.{length}
 use borrow.Author.Tests.{eqb-true, eqb-false, eq-eqb, ne-eqb, not-true, not-false}
+use Rattle.machine.specs.Refusal.{_when_else_}
 use Rattle.lists.proofs.Tests.{Case, pass, fail, case, and-l, and-r, and-false}
 use Rattle.tables.specs.declared.Tables.{Tables}
 use Rattle.tables.specs.Lookup.{Sized}
 use Rattle.tables.specs.Order.{inOrder}
-use Rattle.machine.specs.Refusal.{_when_else_}
 use Rattle.image.specs.Image.{encode, decode, isImage}
 use Rattle.image.proofs.RoundTrip.{decode-encode}
 use Rattle.batch.specs.Numbers.{countOf}

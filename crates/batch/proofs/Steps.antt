@@ -1,5 +1,5 @@
 -- A batch request by request: what holds before the i-th, that it holds before the next, and what it comes to at the end.
-use Prim.Native.Nat.{ℕ, zero, suc, _+_, _-_, _*_, _≤_, _<_}
+use Prim.Native.Nat.{ℕ, zero, suc, _+_, _*_, _≤_, _<_}
 use native.Mathlib.Omega.{arith}
 use native.Mathlib.Numerals.{add-one}
 use mathlib.Core.Path.{_≡_, refl, sym, ap, subst, _∙_}
@@ -16,8 +16,7 @@ use Rattle.machine.specs.Step.{step}
 use Rattle.preservation.proofs.StepKeepsOrder.{PassesTests, step-keeps-tests}
 use Rattle.served.specs.Outcomes.{stateOf}
 use Rattle.serve.specs.Contract.{HandsBack}
-use Rattle.image.specs.Parts.{joined}
-use Rattle.image.proofs.PartLaws.{Written, written-none, written-next, written-more, written-all}
+use Rattle.lists.proofs.PartLaws.{Written, written-none, written-next, written-more, written-all}
 use Rattle.batch.specs.Numbers.{requestAt, answerNumbers}
 use Rattle.batch.specs.Sequence.{Begins, met, outcomeAt, AllServed}
 use Rattle.batch.proofs.Numbers.{answer-long}

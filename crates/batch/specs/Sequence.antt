@@ -8,7 +8,7 @@ use Rattle.tables.specs.declared.Tables.{Tables}
 use Rattle.machine.specs.State.{State, Outcome, sheetAt}
 use Rattle.machine.specs.Step.{step}
 use Rattle.served.specs.Outcomes.{stateOf}
-use Rattle.image.specs.Parts.{joined}
+use Rattle.lists.specs.Parts.{joined}
 use Rattle.batch.specs.Numbers.{requestAt, answerNumbers}
 
 -- what the first request meets, and all that is sent: the requests' numbers, and a sheet buffer of 64 bytes for each

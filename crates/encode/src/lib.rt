@@ -4,7 +4,7 @@ ghost use mathlib.Core.Path.{_≡_};
 ghost use mathlib.Core.Bool.{cond};
 ghost use lib.ListN.{length, getD};
 ghost use Rattle.tables.specs.Names.{noPad, noEntry};
-ghost use Rattle.image.specs.Parts.{joined};
+ghost use Rattle.lists.specs.Parts.{joined};
 ghost use Rattle.image.specs.Numbers.{bytesOf};
 ghost use Rattle.image.specs.Image.{kindNumber, ticketBytes, programBytes, padBytes, entryBytes, encode};
 use tables::Entry;

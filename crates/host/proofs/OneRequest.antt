@@ -1,8 +1,8 @@
 -- One request is a batch of one: the same refusals, and what the batch leaves is what the step leaves.
-use Prim.Native.Nat.{ℕ, _*_, _/_}
+use Prim.Native.Nat.{ℕ, _/_}
 use native.Mathlib.Omega.{arith}
 use mathlib.Core.Path.{_≡_, refl, sym, ap, _∙_}
-use mathlib.Core.Bool.{Bool, true, false, not, _&&_, cond}
+use mathlib.Core.Bool.{Bool, true, false, not, _&&_}
 use mathlib.Core.List.{List}
 use lib.Dec.{eqb}
 use lib.ListN.{length, getD}
@@ -12,7 +12,7 @@ use Rattle.lists.proofs.Tests.{Case, pass, fail, case}
 use Rattle.machine.specs.State.{Outcome, sheetAt}
 use Rattle.machine.specs.Refusal.{_when_else_}
 use Rattle.machine.proofs.RefusalLaws.{when-past}
-use Rattle.image.specs.Parts.{joined}
+use Rattle.lists.specs.Parts.{joined}
 use Rattle.image.specs.Image.{encode}
 use Rattle.batch.specs.Numbers.{answerNumbers}
 use Rattle.batch.specs.Sequence.{met, outcomeAt}

@@ -12,7 +12,7 @@ use Rattle.machine.specs.State.{Outcome}
 use Rattle.machine.specs.Refusal.{_when_else_}
 use Rattle.machine.specs.Dock.{dockCheck}
 use Rattle.machine.specs.Step.{step}
-use Rattle.machine.specs.Empty.{Emptied, emptied}
+use Rattle.machine.specs.Empty.{emptied}
 use Rattle.served.specs.Outcomes.{stateOf}
 use Rattle.image.specs.Image.{encode, decode, isImage}
 use Rattle.batch.specs.Numbers.{requestIn, answerNumbers}

@@ -1,4 +1,3 @@
-pub mod PartLaws
 pub mod NumberLaws
 pub mod Lengths
 pub mod RoundTrip

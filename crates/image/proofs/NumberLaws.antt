@@ -7,9 +7,9 @@ use mathlib.Core.List.{List, [], _∷_}
 use lib.ListN.{length, getD, set, take, drop, length-drop}
 use lib.Seq.{getD-drop}
 use Rattle.lists.proofs.Front.{front, front-more}
-use Rattle.image.specs.Parts.{tabulate}
+use Rattle.lists.specs.Parts.{tabulate}
 use Rattle.image.specs.Numbers.{bytesOf, numberAt}
-use Rattle.image.proofs.PartLaws.{Begins}
+use Rattle.lists.proofs.PartLaws.{Begins}
 
 twice : (i : ℕ) → 2 * suc i ≡ suc (suc (2 * i))
 twice i = omega arith

@@ -10,7 +10,7 @@ use Rattle.rights.specs.Rules.{rightsOf}
 use Rattle.tables.specs.declared.{Name.Name, Kind.Kind, Ticket.Ticket, Program.Program, Pad.Pad, Entry.Entry, Tables.Tables}
 use Rattle.tables.specs.declared.Kind.the-variants.{Free, Taken, Received, Child, Recall}
 use Rattle.tables.specs.Names.{nameOf, free, noEntry, noProgram, noPad}
-use Rattle.image.specs.Parts.{tabulate, joined}
+use Rattle.lists.specs.Parts.{tabulate, joined}
 use Rattle.image.specs.Numbers.{bytesOf, numberAt}
 
 -- ---- a ticket: kind, number, own, other (pad, program, number), first, count, rights, dock (pad, program, number); 24 bytes

@@ -2,15 +2,10 @@ use Rattle.batch.proofs.Refusals.{by-thirds}
 use Rattle.batch.specs.Batch.{lengthsFit}
 use borrow.Author.Tests.{eq-eqb, ne-eqb}
 use Prim.Native.Nat.{_/_}
-use Prim.Native.Nat.{ℕ, _+_, _-_, _*_, _≤_, _<_}
-use mathlib.Core.Path.{_≡_, refl, sym, ap, subst, _∙_}
+use Prim.Native.Nat.{_*_}
 use native.Mathlib.Omega.{arith}
-use borrow.Author.Needs.{needs}
-use lib.ListN.{length, getD, set}
 use Rattle.batch.proofs.lengths_ok.Statement.{statement}
 use Rattle.batch.proofs.lengths_ok.Tie as tie
-use Rattle.batch.proofs.lengths_ok.Reads as reads
-use Rattle.batch.proofs.lengths_ok.Lts as lts
 
 returns : tie.Need-returns
 unfolding lengthsFit

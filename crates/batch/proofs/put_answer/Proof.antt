@@ -1,14 +1,8 @@
 use Rattle.batch.proofs.Numbers.{three-stored}
 use Rattle.batch.specs.Numbers.{answerNumbers}
-use Prim.Native.Nat.{ℕ, _+_, _-_, _*_, _≤_, _<_}
-use mathlib.Core.Path.{_≡_, refl, sym, ap, subst, _∙_}
-use native.Mathlib.Omega.{arith}
 use borrow.Author.Needs.{needs}
-use lib.ListN.{length, getD, set}
 use Rattle.batch.proofs.put_answer.Statement.{statement}
 use Rattle.batch.proofs.put_answer.Tie as tie
-use Rattle.batch.proofs.put_answer.Reads as reads
-use Rattle.batch.proofs.put_answer.Lts as lts
 
 slice-write-numbers : tie.Need-slice-write-numbers
 slice-write-numbers c = search needs

@@ -1,13 +1,8 @@
 use Rattle.batch.specs.Numbers.{requestIn}
-use Prim.Native.Nat.{ℕ, _+_, _-_, _*_, _≤_, _<_}
-use mathlib.Core.Path.{_≡_, refl, sym, ap, subst, _∙_}
-use native.Mathlib.Omega.{arith}
+use mathlib.Core.Path.{refl}
 use borrow.Author.Needs.{needs}
-use lib.ListN.{length, getD, set}
 use Rattle.batch.proofs.request_in.Statement.{statement}
 use Rattle.batch.proofs.request_in.Tie as tie
-use Rattle.batch.proofs.request_in.Reads as reads
-use Rattle.batch.proofs.request_in.Lts as lts
 
 shared-slice-read-t3 : tie.Need-shared-slice-read-t3
 shared-slice-read-t3 c = search needs

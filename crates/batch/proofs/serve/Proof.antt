@@ -4,22 +4,12 @@ use Rattle.image.specs.Image.{decode}
 use Rattle.tables.proofs.Fits.{tables-fit, tables-sized}
 use Rattle.tables.specs.Order.{inOrder}
 use mathlib.Core.Bool.{true}
-use Prim.Native.Nat.{ℕ, _+_, _-_, _*_, _≤_, _<_}
-use mathlib.Core.Path.{_≡_, refl, sym, ap, subst, _∙_}
+use mathlib.Core.Path.{_≡_, sym, ap, _∙_}
 use native.Mathlib.Omega.{arith}
 use borrow.Author.Needs.{needs}
-use lib.ListN.{length, getD, set}
+use lib.ListN.{length}
 use Rattle.batch.proofs.serve.Statement.{statement}
 use Rattle.batch.proofs.serve.Tie as tie
-use Rattle.batch.proofs.serve.Reads as reads
-use Rattle.batch.proofs.serve.Lts as lts
-use Rattle.batch.proofs.lengths_ok.Reads as lengths-ok-reads
-use Rattle.batch.proofs.serve_all.Reads as serve-all-reads
-use Rattle.batch.proofs.stays_in_order.Reads as stays-in-order-reads
-use Rattle.decode.proofs.is_image.Reads as is-image-reads
-use Rattle.decode.proofs.tables.Reads as tables-reads
-use Rattle.encode.proofs.tables.Reads as tables-reads′
-use Rattle.order.proofs.in_order.Reads as in-order-reads
 
 lengths-ok-requires : tie.Need-lengths-ok-requires
 lengths-ok-requires c κs = search needs

@@ -4,18 +4,12 @@ use Rattle.batch.specs.Numbers.{requestIn, countOf}
 use Rattle.tables.proofs.Fits.{tables-fit, tables-sized}
 use Rattle.lists.proofs.Front.{rest-part}
 use lib.ListN.{length-take, length-drop}
-use Prim.Native.Nat.{ℕ, _+_, _-_, _*_, _≤_, _<_}
-use mathlib.Core.Path.{_≡_, refl, sym, ap, subst, _∙_}
+use Prim.Native.Nat.{_+_, _-_, _*_}
+use mathlib.Core.Path.{sym, ap, _∙_}
 use native.Mathlib.Omega.{arith}
 use borrow.Author.Needs.{needs}
-use lib.ListN.{length, getD, set}
 use Rattle.batch.proofs.serve_all.Statement.{statement}
 use Rattle.batch.proofs.serve_all.Tie as tie
-use Rattle.batch.proofs.serve_all.Reads as reads
-use Rattle.batch.proofs.serve_all.Lts as lts
-use Rattle.batch.proofs.put_answer.Reads as put-answer-reads
-use Rattle.batch.proofs.request_in.Reads as request-in-reads
-use Rattle.batch.proofs.serve_one.Reads as serve-one-reads
 
 abbrev Inv-loop : tie.InvT-loop
 Inv-loop store₀ sheets₀ requests answers₀ keeps n t₀ sure₀ i₀ store sheets answers t sure i = Going (beginsWith t₀ store₀ sheets₀ requests) n answers₀ keeps i t store sheets answers sure

@@ -3,17 +3,10 @@ use Rattle.preservation.proofs.TestMeansOrder.{test-means-order}
 use Rattle.preservation.proofs.StepKeepsOrder.{step-is-serve}
 use Rattle.served.specs.Outcomes.{stateOf}
 use Rattle.serve.proofs.Parts.{same-outcome}
-use Prim.Native.Nat.{ℕ, _+_, _-_, _*_, _≤_, _<_}
-use mathlib.Core.Path.{_≡_, refl, sym, ap, subst, _∙_}
-use native.Mathlib.Omega.{arith}
+use mathlib.Core.Path.{sym}
 use borrow.Author.Needs.{needs}
-use lib.ListN.{length, getD, set}
 use Rattle.batch.proofs.serve_one.Statement.{statement}
 use Rattle.batch.proofs.serve_one.Tie as tie
-use Rattle.batch.proofs.serve_one.Reads as reads
-use Rattle.batch.proofs.serve_one.Lts as lts
-use Rattle.serve.proofs.request.Reads as request-reads
-use Rattle.step.proofs.step.Reads as step-reads
 
 request-requires : tie.Need-request-requires
 request-requires c κs =

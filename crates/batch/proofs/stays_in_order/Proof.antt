@@ -1,14 +1,8 @@
 use Rattle.lists.proofs.Tests.{no-true}
-use Prim.Native.Nat.{ℕ, _+_, _-_, _*_, _≤_, _<_}
-use mathlib.Core.Path.{_≡_, refl, sym, ap, subst, _∙_}
-use native.Mathlib.Omega.{arith}
+use mathlib.Core.Path.{sym, _∙_}
 use borrow.Author.Needs.{needs}
-use lib.ListN.{length, getD, set}
 use Rattle.batch.proofs.stays_in_order.Statement.{statement}
 use Rattle.batch.proofs.stays_in_order.Tie as tie
-use Rattle.batch.proofs.stays_in_order.Reads as reads
-use Rattle.batch.proofs.stays_in_order.Lts as lts
-use Rattle.order.proofs.no_far_child.Reads as no-far-child-reads
 
 returns : tie.Need-returns
 returns c = λ e. no-true e

@@ -2,19 +2,14 @@ use Rattle.tables.specs.Names.{noEntry}
 use Rattle.lists.proofs.Front.{rest-part}
 use Rattle.lists.proofs.Laid.{Laid, laid-none, one-more}
 use lib.ListN.{drop}
-use Rattle.image.proofs.PartLaws.{tabulated}
+use Rattle.lists.proofs.PartLaws.{tabulated}
 use Rattle.image.specs.Image.{entryIn, decode}
-use Prim.Native.Nat.{ℕ, _+_, _-_, _*_, _≤_, _<_}
-use mathlib.Core.Path.{_≡_, refl, sym, ap, subst, _∙_}
+use Prim.Native.Nat.{_+_, _-_, _*_, _≤_}
+use mathlib.Core.Path.{ap, _∙_}
 use native.Mathlib.Omega.{arith}
 use borrow.Author.Needs.{needs}
-use lib.ListN.{length, getD, set}
 use Rattle.decode.proofs.entries_in.Statement.{statement}
 use Rattle.decode.proofs.entries_in.Tie as tie
-use Rattle.decode.proofs.entries_in.Reads as reads
-use Rattle.decode.proofs.entries_in.Lts as lts
-use Rattle.decode.proofs.entry_in.Reads as entry-in-reads
-use Rattle.tables.proofs.Entry.none.Reads as none-reads
 
 abbrev Inv-loop : tie.InvT-loop
 Inv-loop bytes entries₀ i₀ entries i = (i ≤ 256) × Laid noEntry 256 (λ j. entryIn (drop (6208 + 20 * j) bytes)) i entries

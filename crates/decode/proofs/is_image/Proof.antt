@@ -1,16 +1,10 @@
 use borrow.Author.Tests.{ne-eqb, eq-eqb, not-true, not-false}
 use Rattle.image.specs.Image.{isImage}
-use Prim.Native.Nat.{ℕ, _+_, _-_, _*_, _≤_, _<_}
-use mathlib.Core.Path.{_≡_, refl, sym, ap, subst, _∙_}
-use native.Mathlib.Omega.{arith}
+use mathlib.Core.Path.{sym, _∙_}
 use borrow.Author.Needs.{needs}
-use lib.ListN.{length, getD, set}
+use lib.ListN.{length}
 use Rattle.decode.proofs.is_image.Statement.{statement}
 use Rattle.decode.proofs.is_image.Tie as tie
-use Rattle.decode.proofs.is_image.Reads as reads
-use Rattle.decode.proofs.is_image.Lts as lts
-use Rattle.decode.proofs.kinds_ok.Reads as kinds-ok-reads
-use Rattle.decode.proofs.lives_ok.Reads as lives-ok-reads
 
 returns : tie.Need-returns
 unfolding isImage

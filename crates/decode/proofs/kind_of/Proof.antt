@@ -1,5 +1,4 @@
 -- Each arm is the definition's at that number.
-use mathlib.Core.Path.{sym, _∙_}
 use borrow.Author.Tests.{ne-eqb}
 use Rattle.image.specs.Image.{kindOf}
 use Rattle.decode.proofs.kind_of.Statement.{statement}

@@ -1,13 +1,6 @@
-use Prim.Native.Nat.{ℕ, _+_, _-_, _*_, _≤_, _<_}
-use mathlib.Core.Path.{_≡_, refl, sym, ap, subst, _∙_}
-use native.Mathlib.Omega.{arith}
 use borrow.Author.Needs.{needs}
-use lib.ListN.{length, getD, set}
 use Rattle.decode.proofs.name_at.Statement.{statement}
 use Rattle.decode.proofs.name_at.Tie as tie
-use Rattle.decode.proofs.name_at.Reads as reads
-use Rattle.decode.proofs.name_at.Lts as lts
-use Rattle.decode.proofs.number_at.Reads as number-at-reads
 
 number-at-requires : tie.Need-number-at-requires
 number-at-requires c κs = search needs

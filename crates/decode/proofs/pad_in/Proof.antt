@@ -2,19 +2,14 @@ use Rattle.tables.specs.Names.{noProgram}
 use Rattle.lists.proofs.Front.{rest-part}
 use Rattle.lists.proofs.Laid.{Laid, laid-none, one-more}
 use lib.ListN.{drop}
-use Rattle.image.proofs.PartLaws.{tabulated}
+use Rattle.lists.proofs.PartLaws.{tabulated}
 use Rattle.image.specs.Image.{programIn, padIn}
-use Prim.Native.Nat.{ℕ, _+_, _-_, _*_, _≤_, _<_}
-use mathlib.Core.Path.{_≡_, refl, sym, ap, subst, _∙_}
+use Prim.Native.Nat.{_-_, _*_, _≤_}
+use mathlib.Core.Path.{ap, _∙_}
 use native.Mathlib.Omega.{arith}
 use borrow.Author.Needs.{needs}
-use lib.ListN.{length, getD, set}
 use Rattle.decode.proofs.pad_in.Statement.{statement}
 use Rattle.decode.proofs.pad_in.Tie as tie
-use Rattle.decode.proofs.pad_in.Reads as reads
-use Rattle.decode.proofs.pad_in.Lts as lts
-use Rattle.decode.proofs.program_in.Reads as program-in-reads
-use Rattle.tables.proofs.Ticket.free.Reads as free-reads
 
 abbrev Inv-loop : tie.InvT-loop
 Inv-loop bytes programs₀ i₀ programs i = (i ≤ 8) × Laid noProgram 8 (λ j. programIn (drop (194 * j) bytes)) i programs

@@ -2,18 +2,14 @@ use Rattle.tables.specs.Names.{noPad}
 use Rattle.lists.proofs.Front.{rest-part}
 use Rattle.lists.proofs.Laid.{Laid, laid-none, one-more}
 use lib.ListN.{drop}
-use Rattle.image.proofs.PartLaws.{tabulated}
+use Rattle.lists.proofs.PartLaws.{tabulated}
 use Rattle.image.specs.Image.{padIn, decode}
-use Prim.Native.Nat.{ℕ, _+_, _-_, _*_, _≤_, _<_}
-use mathlib.Core.Path.{_≡_, refl, sym, ap, subst, _∙_}
+use Prim.Native.Nat.{_-_, _*_, _≤_}
+use mathlib.Core.Path.{ap, _∙_}
 use native.Mathlib.Omega.{arith}
 use borrow.Author.Needs.{needs}
-use lib.ListN.{length, getD, set}
 use Rattle.decode.proofs.pads_in.Statement.{statement}
 use Rattle.decode.proofs.pads_in.Tie as tie
-use Rattle.decode.proofs.pads_in.Reads as reads
-use Rattle.decode.proofs.pads_in.Lts as lts
-use Rattle.decode.proofs.pad_in.Reads as pad-in-reads
 
 abbrev Inv-loop : tie.InvT-loop
 Inv-loop bytes pads₀ i₀ pads i = (i ≤ 4) × Laid noPad 4 (λ j. padIn (drop (1552 * j) bytes)) i pads

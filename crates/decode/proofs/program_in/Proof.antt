@@ -2,20 +2,14 @@ use Rattle.tables.specs.Names.{free}
 use Rattle.lists.proofs.Front.{rest-part}
 use Rattle.lists.proofs.Laid.{Laid, laid-none, one-more}
 use lib.ListN.{drop}
-use Rattle.image.proofs.PartLaws.{tabulated}
+use Rattle.lists.proofs.PartLaws.{tabulated}
 use Rattle.image.specs.Image.{ticketIn, programIn}
-use Prim.Native.Nat.{ℕ, _+_, _-_, _*_, _≤_, _<_}
-use mathlib.Core.Path.{_≡_, refl, sym, ap, subst, _∙_}
+use Prim.Native.Nat.{_-_, _*_, _≤_}
+use mathlib.Core.Path.{ap, _∙_}
 use native.Mathlib.Omega.{arith}
 use borrow.Author.Needs.{needs}
-use lib.ListN.{length, getD, set}
 use Rattle.decode.proofs.program_in.Statement.{statement}
 use Rattle.decode.proofs.program_in.Tie as tie
-use Rattle.decode.proofs.program_in.Reads as reads
-use Rattle.decode.proofs.program_in.Lts as lts
-use Rattle.decode.proofs.number_at.Reads as number-at-reads
-use Rattle.decode.proofs.ticket_in.Reads as ticket-in-reads
-use Rattle.tables.proofs.Ticket.free.Reads as free-reads
 
 abbrev Inv-loop : tie.InvT-loop
 Inv-loop bytes tickets₀ i₀ tickets i = (i ≤ 8) × Laid free 8 (λ j. ticketIn (drop (24 * j) bytes)) i tickets

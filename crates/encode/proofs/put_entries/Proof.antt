@@ -1,17 +1,14 @@
 use Rattle.image.proofs.Lengths.{entry-long}
-use Rattle.image.proofs.PartLaws.{Written, written-none, written-more, written-all}
+use Rattle.lists.proofs.PartLaws.{Written, written-none, written-more, written-all}
 use Rattle.image.specs.Image.{entryBytes}
 use Rattle.tables.specs.Names.{noEntry}
-use Prim.Native.Nat.{ℕ, _+_, _-_, _*_, _≤_, _<_}
-use mathlib.Core.Path.{_≡_, refl, sym, ap, subst, _∙_}
+use Prim.Native.Nat.{_+_, _-_, _*_, _≤_}
+use mathlib.Core.Path.{refl}
 use native.Mathlib.Omega.{arith}
 use borrow.Author.Needs.{needs}
-use lib.ListN.{length, getD, set}
+use lib.ListN.{getD}
 use Rattle.encode.proofs.put_entries.Statement.{statement}
 use Rattle.encode.proofs.put_entries.Tie as tie
-use Rattle.encode.proofs.put_entries.Reads as reads
-use Rattle.encode.proofs.put_entries.Lts as lts
-use Rattle.encode.proofs.put_entry.Reads as put-entry-reads
 
 abbrev Inv-loop : tie.InvT-loop
 Inv-loop bytes₀ entries i₀ bytes i = (i ≤ 256) × Written 20 (λ j. entryBytes (getD entries j noEntry)) bytes₀ i bytes

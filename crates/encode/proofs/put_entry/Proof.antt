@@ -1,17 +1,10 @@
 use mathlib.Core.List.{[], _∷_}
 use Rattle.image.specs.Numbers.{bytesOf}
 use Rattle.image.specs.Image.{entryNumbers, entryBytes}
-use Prim.Native.Nat.{ℕ, _+_, _-_, _*_, _≤_, _<_}
-use mathlib.Core.Path.{_≡_, refl, sym, ap, subst, _∙_}
-use native.Mathlib.Omega.{arith}
+use mathlib.Core.Path.{_∙_}
 use borrow.Author.Needs.{needs}
-use lib.ListN.{length, getD, set}
 use Rattle.encode.proofs.put_entry.Statement.{statement}
 use Rattle.encode.proofs.put_entry.Tie as tie
-use Rattle.encode.proofs.put_entry.Reads as reads
-use Rattle.encode.proofs.put_entry.Lts as lts
-use Rattle.encode.proofs.flag.Reads as flag-reads
-use Rattle.encode.proofs.put_numbers.Reads as put-numbers-reads
 
 -- src/lib.rt:124:9
 flag-requires : tie.Need-flag-requires

@@ -2,15 +2,13 @@ use Rattle.lists.proofs.Front.{front, front-none, front-end}
 use lib.ListN.{length-set}
 use Rattle.image.proofs.NumberLaws.{length-bytes, put-number}
 use Rattle.image.specs.Numbers.{bytesOf}
-use Prim.Native.Nat.{ℕ, _+_, _-_, _*_, _≤_, _<_}
-use mathlib.Core.Path.{_≡_, refl, sym, ap, subst, _∙_}
+use Prim.Native.Nat.{_-_, _*_, _≤_}
+use mathlib.Core.Path.{_≡_, refl, _∙_}
 use native.Mathlib.Omega.{arith}
 use borrow.Author.Needs.{needs}
-use lib.ListN.{length, getD, set}
+use lib.ListN.{length}
 use Rattle.encode.proofs.put_numbers.Statement.{statement}
 use Rattle.encode.proofs.put_numbers.Tie as tie
-use Rattle.encode.proofs.put_numbers.Reads as reads
-use Rattle.encode.proofs.put_numbers.Lts as lts
 
 abbrev Inv-loop : tie.InvT-loop
 Inv-loop bytes₀ numbers i₀ bytes i = (i ≤ length numbers) × ((length bytes ≡ length bytes₀) × (bytes ≡ front (2 * i) (bytesOf numbers) bytes₀))

@@ -1,17 +1,14 @@
 use Rattle.image.proofs.Lengths.{program-long}
-use Rattle.image.proofs.PartLaws.{Written, written-none, written-more, written-all}
+use Rattle.lists.proofs.PartLaws.{Written, written-none, written-more, written-all}
 use Rattle.image.specs.Image.{programBytes, padBytes}
 use Rattle.tables.specs.Names.{noProgram}
-use Prim.Native.Nat.{ℕ, _+_, _-_, _*_, _≤_, _<_}
-use mathlib.Core.Path.{_≡_, refl, sym, ap, subst, _∙_}
+use Prim.Native.Nat.{_+_, _-_, _*_, _≤_}
+use mathlib.Core.Path.{refl}
 use native.Mathlib.Omega.{arith}
 use borrow.Author.Needs.{needs}
-use lib.ListN.{length, getD, set}
+use lib.ListN.{getD}
 use Rattle.encode.proofs.put_pad.Statement.{statement}
 use Rattle.encode.proofs.put_pad.Tie as tie
-use Rattle.encode.proofs.put_pad.Reads as reads
-use Rattle.encode.proofs.put_pad.Lts as lts
-use Rattle.encode.proofs.put_program.Reads as put-program-reads
 
 abbrev Inv-loop : tie.InvT-loop
 Inv-loop bytes₀ p i₀ bytes i = (i ≤ 8) × Written 194 (λ j. programBytes (getD (p .programs) j noProgram)) bytes₀ i bytes

@@ -1,17 +1,14 @@
 use Rattle.image.proofs.Lengths.{pad-long}
-use Rattle.image.proofs.PartLaws.{Written, written-none, written-more, written-all}
+use Rattle.lists.proofs.PartLaws.{Written, written-none, written-more, written-all}
 use Rattle.image.specs.Image.{padBytes}
 use Rattle.tables.specs.Names.{noPad}
-use Prim.Native.Nat.{ℕ, _+_, _-_, _*_, _≤_, _<_}
-use mathlib.Core.Path.{_≡_, refl, sym, ap, subst, _∙_}
+use Prim.Native.Nat.{_+_, _-_, _*_, _≤_}
+use mathlib.Core.Path.{refl}
 use native.Mathlib.Omega.{arith}
 use borrow.Author.Needs.{needs}
-use lib.ListN.{length, getD, set}
+use lib.ListN.{getD}
 use Rattle.encode.proofs.put_pads.Statement.{statement}
 use Rattle.encode.proofs.put_pads.Tie as tie
-use Rattle.encode.proofs.put_pads.Reads as reads
-use Rattle.encode.proofs.put_pads.Lts as lts
-use Rattle.encode.proofs.put_pad.Reads as put-pad-reads
 
 abbrev Inv-loop : tie.InvT-loop
 Inv-loop bytes₀ pads i₀ bytes i = (i ≤ 4) × Written 1552 (λ j. padBytes (getD pads j noPad)) bytes₀ i bytes

@@ -1,21 +1,17 @@
 use Rattle.image.proofs.Lengths.{ticket-long}
-use Rattle.image.proofs.PartLaws.{Written, written-none, written-more, written-front, tail-put}
+use Rattle.lists.proofs.PartLaws.{Written, written-none, written-more, written-front, tail-put}
 use Rattle.image.specs.Image.{ticketBytes, programBytes}
-use Rattle.image.specs.Parts.{joined}
+use Rattle.lists.specs.Parts.{joined}
 use Rattle.tables.specs.Names.{free}
 use lib.ListN.{take, length-take, length-drop}
 use mathlib.Core.List.{List, _++_}
-use Prim.Native.Nat.{ℕ, _+_, _-_, _*_, _≤_, _<_}
-use mathlib.Core.Path.{_≡_, refl, sym, ap, subst, _∙_}
+use Prim.Native.Nat.{ℕ, _+_, _-_, _*_, _≤_}
+use mathlib.Core.Path.{_≡_, refl, sym, ap, _∙_}
 use native.Mathlib.Omega.{arith}
 use borrow.Author.Needs.{needs}
-use lib.ListN.{length, getD, set}
+use lib.ListN.{length, getD}
 use Rattle.encode.proofs.put_program.Statement.{statement}
 use Rattle.encode.proofs.put_program.Tie as tie
-use Rattle.encode.proofs.put_program.Reads as reads
-use Rattle.encode.proofs.put_program.Lts as lts
-use Rattle.encode.proofs.put_numbers.Reads as put-numbers-reads
-use Rattle.encode.proofs.put_ticket.Reads as put-ticket-reads
 
 abbrev Inv-loop : tie.InvT-loop
 Inv-loop bytes₀ p i₀ bytes i = (i ≤ 8) × Written 24 (λ j. ticketBytes (getD (p .tickets) j free)) bytes₀ i bytes

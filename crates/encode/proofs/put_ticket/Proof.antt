@@ -1,17 +1,10 @@
 use mathlib.Core.List.{[], _∷_}
 use Rattle.image.specs.Image.{ticketNumbers, ticketBytes}
 use Rattle.image.specs.Numbers.{bytesOf}
-use Prim.Native.Nat.{ℕ, _+_, _-_, _*_, _≤_, _<_}
-use mathlib.Core.Path.{_≡_, refl, sym, ap, subst, _∙_}
-use native.Mathlib.Omega.{arith}
+use mathlib.Core.Path.{_∙_}
 use borrow.Author.Needs.{needs}
-use lib.ListN.{length, getD, set}
 use Rattle.encode.proofs.put_ticket.Statement.{statement}
 use Rattle.encode.proofs.put_ticket.Tie as tie
-use Rattle.encode.proofs.put_ticket.Reads as reads
-use Rattle.encode.proofs.put_ticket.Lts as lts
-use Rattle.encode.proofs.kind_number.Reads as kind-number-reads
-use Rattle.encode.proofs.put_numbers.Reads as put-numbers-reads
 
 kind-number-requires : tie.Need-kind-number-requires
 kind-number-requires c κs = search needs

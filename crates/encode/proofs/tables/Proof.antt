@@ -1,20 +1,16 @@
 use Rattle.image.proofs.Lengths.{pads-long}
-use Rattle.image.proofs.PartLaws.{tail-put}
+use Rattle.lists.proofs.PartLaws.{tail-put}
 use Rattle.image.specs.Image.{encode}
 use lib.Seq.{take-at}
 use lib.ListN.{drop, length-take, length-drop, length-append}
 use mathlib.Core.List.{_++_}
-use Prim.Native.Nat.{ℕ, _+_, _-_, _*_, _≤_, _<_}
-use mathlib.Core.Path.{_≡_, refl, sym, ap, subst, _∙_}
+use Prim.Native.Nat.{_-_}
+use mathlib.Core.Path.{_≡_, ap, _∙_}
 use native.Mathlib.Omega.{arith}
 use borrow.Author.Needs.{needs}
-use lib.ListN.{length, getD, set}
+use lib.ListN.{length}
 use Rattle.encode.proofs.tables.Statement.{statement}
 use Rattle.encode.proofs.tables.Tie as tie
-use Rattle.encode.proofs.tables.Reads as reads
-use Rattle.encode.proofs.tables.Lts as lts
-use Rattle.encode.proofs.put_entries.Reads as put-entries-reads
-use Rattle.encode.proofs.put_pads.Reads as put-pads-reads
 
 slice-relend-prefix-put-pads : tie.Need-slice-relend-prefix-put-pads
 slice-relend-prefix-put-pads c = search needs

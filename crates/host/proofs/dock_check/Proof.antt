@@ -1,22 +1,15 @@
+use Rattle.machine.specs.Refusal.{_when_else_}
 use Rattle.host.specs.Host.{checkImage}
 use Rattle.batch.proofs.Refusals.{passed, failed}
 use Rattle.machine.specs.Dock.{dockCheck}
-use Rattle.machine.specs.Refusal.{_when_else_}
 use Rattle.tables.specs.Names.{nameOf}
 use Rattle.tables.specs.declared.Tables.{Tables}
 use borrow.Author.Tests.{eq-eqb, ne-eqb}
-use Prim.Native.Nat.{ℕ, _+_, _-_, _*_, _≤_, _<_}
-use mathlib.Core.Path.{_≡_, refl, sym, ap, subst, _∙_}
-use native.Mathlib.Omega.{arith}
+use mathlib.Core.Path.{ap, _∙_}
 use borrow.Author.Needs.{needs}
-use lib.ListN.{length, getD, set}
+use lib.ListN.{length}
 use Rattle.host.proofs.dock_check.Statement.{statement}
 use Rattle.host.proofs.dock_check.Tie as tie
-use Rattle.host.proofs.dock_check.Reads as reads
-use Rattle.host.proofs.dock_check.Lts as lts
-use Rattle.decode.proofs.is_image.Reads as is-image-reads
-use Rattle.decode.proofs.tables.Reads as tables-reads
-use Rattle.step.proofs.check.Reads as check-reads
 
 returns : tie.Need-returns
 unfolding checkImage _when_else_

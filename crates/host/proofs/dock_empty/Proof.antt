@@ -1,15 +1,7 @@
 use Rattle.host.proofs.Answers.{not-emptied, all-emptied}
-use Prim.Native.Nat.{ℕ, _+_, _-_, _*_, _≤_, _<_}
-use mathlib.Core.Path.{_≡_, refl, sym, ap, subst, _∙_}
-use native.Mathlib.Omega.{arith}
 use borrow.Author.Needs.{needs}
-use lib.ListN.{length, getD, set}
 use Rattle.host.proofs.dock_empty.Statement.{statement}
 use Rattle.host.proofs.dock_empty.Tie as tie
-use Rattle.host.proofs.dock_empty.Reads as reads
-use Rattle.host.proofs.dock_empty.Lts as lts
-use Rattle.encode.proofs.tables.Reads as tables-reads
-use Rattle.step.proofs.empty.Reads as empty-reads
 
 returns : tie.Need-returns
 returns c =

@@ -1,20 +1,13 @@
+use Rattle.machine.specs.Refusal.{_when_else_}
 use Rattle.host.specs.Host.{orderOf}
 use Rattle.batch.proofs.Refusals.{passed, failed, no-image, out-of-order, tables-ok}
-use Rattle.machine.specs.Refusal.{_when_else_}
 use Rattle.tables.specs.Order.{inOrder}
 use borrow.Author.Tests.{eq-eqb, ne-eqb}
-use Prim.Native.Nat.{ℕ, _+_, _-_, _*_, _≤_, _<_}
-use mathlib.Core.Path.{_≡_, refl, sym, ap, subst, _∙_}
-use native.Mathlib.Omega.{arith}
+use mathlib.Core.Path.{sym, ap, _∙_}
 use borrow.Author.Needs.{needs}
-use lib.ListN.{length, getD, set}
+use lib.ListN.{length}
 use Rattle.host.proofs.dock_in_order.Statement.{statement}
 use Rattle.host.proofs.dock_in_order.Tie as tie
-use Rattle.host.proofs.dock_in_order.Reads as reads
-use Rattle.host.proofs.dock_in_order.Lts as lts
-use Rattle.decode.proofs.is_image.Reads as is-image-reads
-use Rattle.decode.proofs.tables.Reads as tables-reads
-use Rattle.order.proofs.in_order.Reads as in-order-reads
 
 returns : tie.Need-returns
 unfolding orderOf _when_else_

@@ -1,15 +1,9 @@
 use Rattle.host.proofs.OneRequest.{other-request, refused-alike, served-alike, whole-answer}
 use Rattle.batch.specs.Batch.{buffersOf}
-use Prim.Native.Nat.{ℕ, _+_, _-_, _*_, _≤_, _<_}
-use mathlib.Core.Path.{_≡_, refl, sym, ap, subst, _∙_}
 use native.Mathlib.Omega.{arith}
 use borrow.Author.Needs.{needs}
-use lib.ListN.{length, getD, set}
 use Rattle.host.proofs.dock_step.Statement.{statement}
 use Rattle.host.proofs.dock_step.Tie as tie
-use Rattle.host.proofs.dock_step.Reads as reads
-use Rattle.host.proofs.dock_step.Lts as lts
-use Rattle.batch.proofs.serve.Reads as serve-reads
 
 returns : tie.Need-returns
 returns c =

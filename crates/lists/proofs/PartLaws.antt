@@ -1,23 +1,22 @@
 -- Laws of lists made of elements or parts: their lengths, what stands at each place, and what a loop that writes one after the other has
 -- after some turns.
-use Prim.Native.Nat.{ℕ, zero, suc, _+_, _-_, _*_, _≤_, _<_}
+use Prim.Native.Nat.{ℕ, zero, suc, _+_, _*_, _≤_, _<_}
 use native.Mathlib.Nat.{mul-zero, mul-suc}
-use native.Mathlib.Numerals.{add-one}
 use native.Mathlib.Omega.{arith}
 use mathlib.Core.Path.{_≡_, refl, sym, ap, subst, _∙_}
 use mathlib.Core.Bool.{Bool, true, false}
-use mathlib.Core.List.{List, [], _∷_, _++_, append-assoc, append-nil}
+use mathlib.Core.List.{List, [], _++_, append-assoc, append-nil}
 use lib.Dec.{eqb}
 use lib.ListN.{length, getD, take, drop, length-append, length-drop}
-use lib.Seq.{take-add, take-at, drop-at, drop-append-le, drop-append-add, drop-drop, drop-length, ext-getD}
+use lib.Seq.{take-add, take-at, drop-at, drop-drop, drop-length, ext-getD}
 use borrow.Author.Tests.{eqb-true, eqb-false}
 use borrow.Rule.Slice.PartMut.{putMid}
 use Rattle.lists.specs.Lists.{all}
 use Rattle.lists.proofs.Tests.{Case, pass, fail, case}
 use Rattle.lists.proofs.Everywhere.{all-intro, all-elim}
 use Rattle.lists.proofs.Laid.{Laid}
 use Rattle.lists.proofs.Loops.{all-broken, so-far}
-use Rattle.image.specs.Parts.{tabulate, joined}
+use Rattle.lists.specs.Parts.{tabulate, joined}
 
 -- ---- elements
 module _ {A : Type 0} where

@@ -1,0 +1,256 @@
+/*
+ * The dock's ink store and the tickets to it: the C boundary of the proved library.
+ *
+ * Build it with `rt staticlib host` and link target/staticlib/libhost.a. "Document 01" is the paper
+ * of requirements that the numbers and the words below come from.
+ *
+ * What the caller guarantees, in every call:
+ *   - a pointer is not null and is valid for its length, also where the length is 0;
+ *     a length counts elements, not bytes;
+ *   - pointers to uint16_t are aligned;
+ *   - the buffers of a call do not overlap;
+ *   - one call at a time on the same buffers. Calls on other buffers may run beside it;
+ *   - pad and program of a request are those of its true sender. The library cannot know who asks.
+ *
+ * What the library guarantees: it keeps nothing between calls and allocates nothing. Tables, store
+ * and sheets belong to the host. A call needs at most DOCK_STACK bytes of stack. Any bytes may be
+ * handed in as tables: those that are none, or are not in order, are refused.
+ *
+ * Any thread of the host may call. Programs on the pads should not: whoever can write to the tables
+ * can make tickets. Between two requests the tables and the store stay as the last call left them;
+ * a host that changes them begins a new sequence of requests.
+ */
+#ifndef DOCK_H
+#define DOCK_H
+
+#include <stddef.h>
+#include <stdint.h>
+
+#ifdef __cplusplus
+extern "C" {
+#endif
+
+/* Lengths of the buffers, in elements. */
+#define DOCK_TABLES 11328 /* bytes of the tables: the image laid out below */
+#define DOCK_STORE 16384  /* bytes of the store: 256 sheets */
+#define DOCK_SHEET 64     /* bytes of a sheet, and of a request's sheet buffer */
+#define DOCK_REQUEST 9    /* numbers of a request */
+#define DOCK_ANSWER 3     /* numbers of an answer */
+
+/* Bytes of stack that a call may take, its own frame included. */
+#define DOCK_STACK 131072
+
+/* How many there are. */
+#define DOCK_PADS 4      /* pads 0 to 3 */
+#define DOCK_PROGRAMS 8  /* programs 0 to 7 on each pad */
+#define DOCK_PLACES 8    /* places for tickets in each program */
+#define DOCK_ENTRIES 256 /* places for entries in the dock */
+#define DOCK_SHEETS 256  /* sheets 0 to 255 in the store */
+
+/* Operations, with the fields of a request that each uses. The other fields must be 0. */
+enum dock_operation {
+    DOCK_TAKE = 1,      /* count, rights: sheets from the store, as zeros */
+    DOCK_PASS = 2,      /* ticket, topad, toprogram, first, count, rights: lends a part */
+    DOCK_RECALL = 3,    /* ticket (a recall): takes back what was lent */
+    DOCK_GIVE_BACK = 4, /* ticket (a taken grant): the sheets become zeros and are free */
+    DOCK_READ = 5,      /* ticket, first: copies the sheet into the sheet buffer */
+    DOCK_WRITE = 6      /* ticket, first: copies the sheet buffer into the sheet */
+};
+
+/* Rights, added together: 1 to 7. */
+enum dock_right {
+    DOCK_RIGHT_READ = 1,   /* may read its sheets */
+    DOCK_RIGHT_WRITE = 2,  /* may write on them */
+    DOCK_RIGHT_PASS_ON = 4 /* may lend them, with no more rights than it has itself */
+};
+
+/*
+ * Results: accepted, or the first refusal that holds (document 01 gives the order). A refusal leaves
+ * tables, store and sheet buffer untouched. DOCK_NO_ENTRY alone drops tickets: the taken or received
+ * grant that heads the ticket's chain, and all under it on that pad.
+ */
+enum dock_result {
+    DOCK_ACCEPTED = 0,      /* done; changed is only what the operation names */
+    DOCK_NO_PROGRAM = 1,    /* pad above 3 or program above 7 */
+    DOCK_NO_OPERATION = 2,  /* op outside 1 to 6 */
+    DOCK_FIELD = 3,         /* a used field out of range, or an unused one not 0 */
+    DOCK_NO_TICKET = 4,     /* the asker has no live ticket of that number */
+    DOCK_WRONG_KIND = 5,    /* a recall where a grant is needed, or a grant of the wrong kind */
+    DOCK_BEYOND = 6,        /* outside the ticket's sheets */
+    DOCK_RIGHT_LACKING = 7, /* the ticket lacks a right */
+    DOCK_TO_ONESELF = 8,    /* the recipient is the asker */
+    DOCK_NO_PLACE = 9,      /* asker or recipient has eight tickets */
+    DOCK_NO_NUMBER = 10,    /* asker's or recipient's last number is 65,535 */
+    DOCK_NO_RUN = 11,       /* the store has no run of so many free sheets */
+    DOCK_NO_ENTRY = 12,     /* the dock has no entry of the ticket's dock name: it was recalled */
+    DOCK_LENGTH = 13,       /* a buffer has another length */
+    DOCK_NOT_IN_ORDER = 14  /* the bytes are no tables, or the tables are not in order */
+};
+
+/* Kinds of ticket, as the image has them. */
+enum dock_kind {
+    DOCK_KIND_FREE = 0,     /* no ticket: a free place */
+    DOCK_KIND_TAKEN = 1,    /* a grant from the store */
+    DOCK_KIND_RECEIVED = 2, /* a grant from another pad */
+    DOCK_KIND_CHILD = 3,    /* a grant from another program of the same pad */
+    DOCK_KIND_RECALL = 4    /* can only take back */
+};
+
+/*
+ * The image of the tables: DOCK_TABLES bytes, every field 16 bits, low byte first, no padding.
+ *
+ *   at                                  size    what
+ *   194 * (8 * pad + program)           194     a program
+ *       + 24 * place                     24       a ticket, place 0 to 7
+ *           + 0                                     kind (enum dock_kind)
+ *           + 2                                     number
+ *           + 4                                     own: of a recall, the number of the grant that it
+ *                                                     stands under, of the same program
+ *           + 6, + 8, + 10                          other: pad, program, number of a child's parent
+ *                                                     or of a recall's target
+ *           + 12, + 14, + 16                        of a grant: first sheet, count, rights
+ *           + 18, + 20, + 22                        of a grant: dock name (pad, program, number)
+ *       + 192                             2       last number given
+ *   6208 + 20 * e                        20     an entry of the dock, place e from 0 to 255
+ *       + 0                                       live: 0 or 1
+ *       + 2, + 4, + 6                             name (pad, program, number)
+ *       + 8, + 10, + 12                           parent (pad, program, number); number 0: the store,
+ *                                                   whatever pad and program say
+ *       + 14, + 16, + 18                          first sheet, count, rights
+ *
+ * Fields that a kind does not use say nothing. A free place, or an entry that is not live, may hold
+ * anything in its other fields. A kind above 4 or a live above 1 anywhere: the bytes are no tables.
+ * In which place a ticket or an entry is kept means nothing: do not compare images by their bytes.
+ */
+#define DOCK_PROGRAM_SIZE 194 /* bytes of a program */
+#define DOCK_TICKET_SIZE 24   /* bytes of a ticket */
+#define DOCK_LAST_AT 192      /* in a program: last number given */
+#define DOCK_ENTRIES_AT 6208  /* in the image: the entries */
+#define DOCK_ENTRY_SIZE 20    /* bytes of an entry */
+
+/* In a ticket; which kinds use a field is in the table above. */
+#define DOCK_TICKET_KIND_AT 0
+#define DOCK_TICKET_NUMBER_AT 2
+#define DOCK_TICKET_OWN_AT 4
+#define DOCK_TICKET_OTHER_AT 6 /* a name */
+#define DOCK_TICKET_FIRST_AT 12
+#define DOCK_TICKET_COUNT_AT 14
+#define DOCK_TICKET_RIGHTS_AT 16
+#define DOCK_TICKET_DOCK_AT 18 /* a name */
+
+/* In an entry. */
+#define DOCK_ENTRY_LIVE_AT 0
+#define DOCK_ENTRY_NAME_AT 2   /* a name */
+#define DOCK_ENTRY_PARENT_AT 8 /* a name */
+#define DOCK_ENTRY_FIRST_AT 14
+#define DOCK_ENTRY_COUNT_AT 16
+#define DOCK_ENTRY_RIGHTS_AT 18
+
+/* In a name. */
+#define DOCK_NAME_PAD_AT 0
+#define DOCK_NAME_PROGRAM_AT 2
+#define DOCK_NAME_NUMBER_AT 4
+
+/* The length of the tables, DOCK_TABLES: for a host that does not compile this header. */
+size_t dock_tables_length(void);
+
+/*
+ * Empties the dock: tables without tickets or entries, last numbers 0, a store of zeros.
+ * DOCK_LENGTH where tables_length is not DOCK_TABLES: nothing changes. DOCK_LENGTH too where
+ * store_length is not DOCK_STORE: the store stays as it was, the tables are emptied all the same.
+ */
+uint16_t dock_empty(uint8_t *tables, size_t tables_length, uint8_t *store, size_t store_length);
+
+/*
+ * Serves one request. Lengths: DOCK_TABLES, DOCK_STORE, DOCK_SHEET, DOCK_REQUEST, DOCK_ANSWER.
+ * A request is pad, program, op, ticket, topad, toprogram, first, count, rights; first counts from
+ * the ticket's first sheet. An answer is result, the asker's new number, the recipient's new number,
+ * 0 where there is none. The result is also what the function returns.
+ * DOCK_LENGTH or DOCK_NOT_IN_ORDER: nothing is written, nor is the answer.
+ */
+uint16_t dock_step(uint8_t *tables, size_t tables_length, uint8_t *store, size_t store_length,
+                   uint8_t *sheet, size_t sheet_length,
+                   const uint16_t *request, size_t request_length,
+                   uint16_t *answer, size_t answer_length);
+
+/*
+ * Serves n requests, one after the other, each as dock_step would. Lengths: DOCK_TABLES, DOCK_STORE,
+ * DOCK_SHEET * n, DOCK_REQUEST * n, DOCK_ANSWER * n, for one n, which may be 0.
+ * DOCK_LENGTH, or DOCK_NOT_IN_ORDER at the start: nothing is written. Otherwise DOCK_ACCEPTED: every
+ * request has its answer, in which it may have been refused. Where tables that a host made fall out
+ * of order midway, each request after that has the answer 14 0 0 and changes nothing.
+ */
+uint16_t dock_serve(uint8_t *tables, size_t tables_length, uint8_t *store, size_t store_length,
+                    uint8_t *sheets, size_t sheets_length,
+                    const uint16_t *requests, size_t requests_length,
+                    uint16_t *answers, size_t answers_length);
+
+/*
+ * The dock's own check: may the bearer of the name pad, program, number use this sheet of the store
+ * (0 to 255) by this right (DOCK_RIGHT_READ or DOCK_RIGHT_WRITE)? DOCK_LENGTH, DOCK_NOT_IN_ORDER,
+ * DOCK_FIELD (no such sheet, another right), DOCK_NO_ENTRY (also for names that cannot be),
+ * DOCK_BEYOND, DOCK_RIGHT_LACKING or DOCK_ACCEPTED. Changes nothing.
+ */
+uint16_t dock_check(const uint8_t *tables, size_t tables_length,
+                    uint16_t pad, uint16_t program, uint16_t number, uint16_t sheet, uint16_t right);
+
+/* DOCK_LENGTH, DOCK_NOT_IN_ORDER, or DOCK_ACCEPTED for tables in order. Changes nothing. */
+uint16_t dock_in_order(const uint8_t *tables, size_t tables_length);
+
+/* The rest is convenience over the six functions above, and no part of the library. */
+
+/* A dock: what a host keeps. */
+struct dock {
+    uint8_t tables[DOCK_TABLES];
+    uint8_t store[DOCK_STORE];
+};
+
+/* A request; fields that the operation does not use must be 0. */
+struct dock_request {
+    uint16_t pad, program, op, ticket, topad, toprogram, first, count, rights;
+};
+
+/* An answer; 0 where there is no new ticket. */
+struct dock_answer {
+    uint16_t result, ticket, recipient;
+};
+
+/* Empties a dock. Each dock starts with this. */
+static inline void dock_start(struct dock *dock)
+{
+    (void)dock_empty(dock->tables, DOCK_TABLES, dock->store, DOCK_STORE);
+}
+
+/*
+ * Serves one request. The sheet buffer is needed for every operation, though only read and write use
+ * it. Where the tables are not in order the answer is 14 0 0.
+ */
+static inline struct dock_answer dock_ask(struct dock *dock, struct dock_request request,
+                                          uint8_t sheet[DOCK_SHEET])
+{
+    /* Copied, number by number: a struct is not promised to lie in memory as an array does. */
+    uint16_t asked[DOCK_REQUEST];
+    uint16_t told[DOCK_ANSWER] = {0, 0, 0};
+    struct dock_answer answer;
+    asked[0] = request.pad;
+    asked[1] = request.program;
+    asked[2] = request.op;
+    asked[3] = request.ticket;
+    asked[4] = request.topad;
+    asked[5] = request.toprogram;
+    asked[6] = request.first;
+    asked[7] = request.count;
+    asked[8] = request.rights;
+    /* The returned number, not told[0]: on 13 and 14 nothing is written to told. */
+    answer.result = dock_step(dock->tables, DOCK_TABLES, dock->store, DOCK_STORE, sheet, DOCK_SHEET,
+                              asked, DOCK_REQUEST, told, DOCK_ANSWER);
+    answer.ticket = told[1];
+    answer.recipient = told[2];
+    return answer;
+}
+
+#ifdef __cplusplus
+}
+#endif
+
+#endif

@@ -1,0 +1,308 @@
+//! The dock's proved library, as a Rust host uses it.
+//!
+//! `Dock` holds the tables and the store and serves requests; `raw` are the same calls over slices of any
+//! length, which the library answers with 13 where a length is wrong.
+
+/// Bytes of the tables' image.
+pub const TABLES: usize = 11_328;
+/// Bytes of the store: 256 sheets.
+pub const STORE: usize = 256 * SHEET;
+/// Bytes of a sheet.
+pub const SHEET: usize = 64;
+
+/// The operations of a request.
+pub const TAKE: u16 = 1;
+pub const PASS: u16 = 2;
+pub const RECALL: u16 = 3;
+pub const GIVE_BACK: u16 = 4;
+pub const READ: u16 = 5;
+pub const WRITE: u16 = 6;
+
+/// Rights are added together.
+pub mod rights {
+    pub const READ: u16 = 1;
+    pub const WRITE: u16 = 2;
+    pub const PASS_ON: u16 = 4;
+    pub const ALL: u16 = READ | WRITE | PASS_ON;
+}
+
+/// Results other than 0.
+pub mod refusal {
+    /// Pad above 3 or program above 7.
+    pub const NO_PROGRAM: u16 = 1;
+    /// Operation outside 1 to 6.
+    pub const NO_OPERATION: u16 = 2;
+    /// A used field is out of range, or an unused one is not 0.
+    pub const FIELD: u16 = 3;
+    /// The asker has no live ticket of that number.
+    pub const NO_TICKET: u16 = 4;
+    /// The operation is not for this kind of ticket.
+    pub const WRONG_KIND: u16 = 5;
+    /// Sheets beyond the ticket's.
+    pub const BEYOND: u16 = 6;
+    /// The ticket lacks a right.
+    pub const RIGHT_LACKING: u16 = 7;
+    /// A pass to the asker itself.
+    pub const TO_ONESELF: u16 = 8;
+    /// Asker or recipient has no free place.
+    pub const NO_PLACE: u16 = 9;
+    /// Asker's or recipient's numbers are spent.
+    pub const NO_NUMBER: u16 = 10;
+    /// No run of sheets is free that is long enough.
+    pub const NO_RUN: u16 = 11;
+    /// The dock has no entry of that name.
+    pub const NO_ENTRY: u16 = 12;
+    /// A buffer has another length.
+    pub const LENGTH: u16 = 13;
+    /// The tables are not in order.
+    pub const NOT_IN_ORDER: u16 = 14;
+}
+
+/// A request's nine numbers, in the library's order.
+#[repr(C)]
+#[derive(Clone, Copy, Debug, Default, PartialEq, Eq)]
+pub struct Request {
+    pub pad: u16,
+    pub program: u16,
+    pub op: u16,
+    pub ticket: u16,
+    pub topad: u16,
+    pub toprogram: u16,
+    pub first: u16,
+    pub count: u16,
+    pub rights: u16,
+}
+
+impl Request {
+    /// Takes `count` sheets from the store.
+    pub fn take(pad: u16, program: u16, count: u16, rights: u16) -> Self {
+        Request { pad, program, op: TAKE, count, rights, ..Request::default() }
+    }
+
+    /// Passes a part of the ticket's sheets, a run (first, count) counted from the ticket's first sheet, to
+    /// another program (pad, program).
+    pub fn pass(pad: u16, program: u16, ticket: u16, to: (u16, u16), run: (u16, u16), rights: u16) -> Self {
+        let ((topad, toprogram), (first, count)) = (to, run);
+        Request { pad, program, op: PASS, ticket, topad, toprogram, first, count, rights }
+    }
+
+    /// Takes back what the recall `ticket` stands for.
+    pub fn recall(pad: u16, program: u16, ticket: u16) -> Self {
+        Request { pad, program, op: RECALL, ticket, ..Request::default() }
+    }
+
+    /// Gives taken sheets back to the store.
+    pub fn give_back(pad: u16, program: u16, ticket: u16) -> Self {
+        Request { pad, program, op: GIVE_BACK, ticket, ..Request::default() }
+    }
+
+    /// Reads the ticket's sheet `first` into the sheet buffer.
+    pub fn read(pad: u16, program: u16, ticket: u16, first: u16) -> Self {
+        Request { pad, program, op: READ, ticket, first, ..Request::default() }
+    }
+
+    /// Writes the sheet buffer into the ticket's sheet `first`.
+    pub fn write(pad: u16, program: u16, ticket: u16, first: u16) -> Self {
+        Request { pad, program, op: WRITE, ticket, first, ..Request::default() }
+    }
+}
+
+/// The result (0 or a refusal), the asker's new number, the recipient's; 0 where there is none.
+#[repr(C)]
+#[derive(Clone, Copy, Debug, Default, PartialEq, Eq)]
+pub struct Answer {
+    pub result: u16,
+    pub ticket: u16,
+    pub recipient: u16,
+}
+
+/// Tables and store. A host may keep and restore them; tables that it changed itself may be out of order,
+/// and then every request is refused with 14.
+#[derive(Clone)]
+pub struct Dock {
+    pub tables: Box<[u8; TABLES]>,
+    pub store: Box<[u8; STORE]>,
+}
+
+impl Default for Dock {
+    fn default() -> Self {
+        Dock::new()
+    }
+}
+
+impl Dock {
+    /// An emptied dock.
+    pub fn new() -> Self {
+        assert_eq!(raw::tables_length(), TABLES, "the library has tables of another length");
+        let mut dock = Dock { tables: Box::new([0; TABLES]), store: Box::new([0; STORE]) };
+        raw::empty(&mut dock.tables[..], &mut dock.store[..]);
+        dock
+    }
+
+    /// Serves one request. A read fills the sheet, a write takes its bytes from there.
+    pub fn step(&mut self, request: &Request, sheet: &mut [u8; SHEET]) -> Answer {
+        let mut answer = Answer::default();
+        // On 13 and 14 the library writes no answer; its result is then the whole of it.
+        answer.result = raw::step(
+            &mut self.tables[..],
+            &mut self.store[..],
+            sheet,
+            ffi::requests(std::slice::from_ref(request)),
+            ffi::answers(std::slice::from_mut(&mut answer)),
+        );
+        answer
+    }
+
+    /// Serves requests one after the other, each with its own sheet and answer. The result is 0; or 13 where
+    /// the three lengths differ, or 14, and then nothing was served and no answer written.
+    pub fn serve(&mut self, requests: &[Request], sheets: &mut [[u8; SHEET]], answers: &mut [Answer]) -> u16 {
+        raw::serve(
+            &mut self.tables[..],
+            &mut self.store[..],
+            sheets.as_flattened_mut(),
+            ffi::requests(requests),
+            ffi::answers(answers),
+        )
+    }
+
+    /// The dock's own check: whether the entry named (pad, program, number) has this sheet of the store with
+    /// this right, read or write.
+    pub fn check(&self, name: (u16, u16, u16), sheet: u16, right: u16) -> u16 {
+        raw::check(&self.tables[..], name, sheet, right)
+    }
+
+    /// 0 where the tables are in order, else 14.
+    pub fn in_order(&self) -> u16 {
+        raw::in_order(&self.tables[..])
+    }
+}
+
+/// The library's calls as they are. Slices of any length may be passed.
+pub mod raw {
+    use super::ffi;
+
+    pub fn tables_length() -> usize {
+        // SAFETY: the function reads no memory of the caller's.
+        unsafe { ffi::dock_tables_length() }
+    }
+
+    pub fn empty(tables: &mut [u8], store: &mut [u8]) -> u16 {
+        // SAFETY: each pointer is valid for its length, and exclusive borrows don't overlap.
+        unsafe { ffi::dock_empty(tables.as_mut_ptr(), tables.len(), store.as_mut_ptr(), store.len()) }
+    }
+
+    pub fn step(
+        tables: &mut [u8],
+        store: &mut [u8],
+        sheet: &mut [u8],
+        request: &[u16],
+        answer: &mut [u16],
+    ) -> u16 {
+        // SAFETY: each pointer is valid for its length, and exclusive borrows overlap nothing.
+        unsafe {
+            ffi::dock_step(
+                tables.as_mut_ptr(),
+                tables.len(),
+                store.as_mut_ptr(),
+                store.len(),
+                sheet.as_mut_ptr(),
+                sheet.len(),
+                request.as_ptr(),
+                request.len(),
+                answer.as_mut_ptr(),
+                answer.len(),
+            )
+        }
+    }
+
+    pub fn serve(
+        tables: &mut [u8],
+        store: &mut [u8],
+        sheets: &mut [u8],
+        requests: &[u16],
+        answers: &mut [u16],
+    ) -> u16 {
+        // SAFETY: each pointer is valid for its length, and exclusive borrows overlap nothing.
+        unsafe {
+            ffi::dock_serve(
+                tables.as_mut_ptr(),
+                tables.len(),
+                store.as_mut_ptr(),
+                store.len(),
+                sheets.as_mut_ptr(),
+                sheets.len(),
+                requests.as_ptr(),
+                requests.len(),
+                answers.as_mut_ptr(),
+                answers.len(),
+            )
+        }
+    }
+
+    pub fn check(tables: &[u8], name: (u16, u16, u16), sheet: u16, right: u16) -> u16 {
+        let (pad, program, number) = name;
+        // SAFETY: the pointer is valid for its length, and the call only reads.
+        unsafe { ffi::dock_check(tables.as_ptr(), tables.len(), pad, program, number, sheet, right) }
+    }
+
+    pub fn in_order(tables: &[u8]) -> u16 {
+        // SAFETY: the pointer is valid for its length, and the call only reads.
+        unsafe { ffi::dock_in_order(tables.as_ptr(), tables.len()) }
+    }
+}
+
+mod ffi {
+    use super::{Answer, Request};
+    use std::slice::{from_raw_parts, from_raw_parts_mut};
+
+    /// The numbers of requests, nine for each.
+    pub fn requests(requests: &[Request]) -> &[u16] {
+        // SAFETY: a `Request` is nine u16 in C's layout, without padding.
+        unsafe { from_raw_parts(requests.as_ptr().cast(), requests.len() * 9) }
+    }
+
+    /// The numbers of answers, three for each.
+    pub fn answers(answers: &mut [Answer]) -> &mut [u16] {
+        // SAFETY: an `Answer` is three u16 in C's layout, without padding, and any u16 is one of its numbers.
+        unsafe { from_raw_parts_mut(answers.as_mut_ptr().cast(), answers.len() * 3) }
+    }
+
+    extern "C" {
+        pub fn dock_tables_length() -> usize;
+        pub fn dock_empty(tables: *mut u8, tables_length: usize, store: *mut u8, store_length: usize) -> u16;
+        pub fn dock_step(
+            tables: *mut u8,
+            tables_length: usize,
+            store: *mut u8,
+            store_length: usize,
+            sheet: *mut u8,
+            sheet_length: usize,
+            request: *const u16,
+            request_length: usize,
+            answer: *mut u16,
+            answer_length: usize,
+        ) -> u16;
+        pub fn dock_serve(
+            tables: *mut u8,
+            tables_length: usize,
+            store: *mut u8,
+            store_length: usize,
+            sheets: *mut u8,
+            sheets_length: usize,
+            requests: *const u16,
+            requests_length: usize,
+            answers: *mut u16,
+            answers_length: usize,
+        ) -> u16;
+        pub fn dock_check(
+            tables: *const u8,
+            tables_length: usize,
+            pad: u16,
+            program: u16,
+            number: u16,
+            sheet: u16,
+            right: u16,
+        ) -> u16;
+        pub fn dock_in_order(tables: *const u8, tables_length: usize) -> u16;
+    }
+}

@@ -1,0 +1,891 @@
+/*
+ * Shows by running the library that each constant of dock.h is what the library means by it.
+ *
+ * Every buffer is a block of the heap of its own, exactly as long as the library is told, so that an
+ * access beyond it is seen: by valgrind the library's, by the sanitizers those of this program.
+ */
+#include "dock.h"
+#include <stdio.h>
+#include <stdlib.h>
+#include <string.h>
+
+#define ALL (DOCK_RIGHT_READ + DOCK_RIGHT_WRITE + DOCK_RIGHT_PASS_ON)
+
+/* What the checks are about, and how many have held. */
+
+static const char *group = "start";
+static unsigned passed, passed_before;
+
+static void fail(int line, const char *what)
+{
+    fprintf(stderr, "constants.c:%d: %s: %s\n", line, group, what);
+    exit(1);
+}
+
+static void holds(int line, int condition, const char *what)
+{
+    if (!condition)
+        fail(line, what);
+    passed++;
+}
+
+static void equal(int line, unsigned long found, unsigned long wanted, const char *what)
+{
+    if (found != wanted) {
+        fprintf(stderr, "constants.c:%d: %s: %s is %lu, not %lu\n", line, group, what, found, wanted);
+        exit(1);
+    }
+    passed++;
+}
+
+#define HOLDS(condition) holds(__LINE__, (condition), #condition)
+#define EQUAL(found, wanted) equal(__LINE__, (found), (wanted), #found)
+
+static void begin(const char *name)
+{
+    group = name;
+    passed_before = passed;
+}
+
+static void end(void)
+{
+    printf("%s: %u checks\n", group, passed - passed_before);
+    fflush(stdout); /* before a failure says why */
+}
+
+/* Memory. */
+
+static void *block(size_t bytes, int byte)
+{
+    void *made = malloc(bytes ? bytes : 1);
+    if (!made)
+        fail(__LINE__, "no memory");
+    return memset(made, byte, bytes);
+}
+
+static void *copy(const void *from, size_t bytes)
+{
+    return memcpy(block(bytes, 0), from, bytes);
+}
+
+static int all(const uint8_t *bytes, size_t length, int byte)
+{
+    size_t i;
+    for (i = 0; i < length; i++)
+        if (bytes[i] != byte)
+            return 0;
+    return 1;
+}
+
+/* The dock that most checks are about. */
+
+static uint8_t *tables, *store, *sheet;
+static uint16_t *request, *answer;
+
+static uint8_t *sheet_of_store(unsigned number)
+{
+    return store + (size_t)DOCK_SHEET * number;
+}
+
+static void start(void)
+{
+    EQUAL(dock_empty(tables, DOCK_TABLES, store, DOCK_STORE), DOCK_ACCEPTED);
+    HOLDS(all(store, DOCK_STORE, 0));
+    EQUAL(dock_in_order(tables, DOCK_TABLES), DOCK_ACCEPTED);
+}
+
+/*
+ * Sends a request, with a sheet buffer full of a byte, and checks the answer. A refusal must change
+ * nothing; 12 may drop tickets. Only a write, a take and a give back may change the store, only a
+ * read the sheet buffer.
+ */
+static void serve_one(int line, struct dock_request r, int byte, unsigned result, unsigned ticket, unsigned recipient)
+{
+    uint8_t *tables_before = copy(tables, DOCK_TABLES);
+    uint8_t *store_before = copy(store, DOCK_STORE);
+    uint16_t numbers[DOCK_REQUEST] = {r.pad,       r.program, r.op,    r.ticket, r.topad,
+                                      r.toprogram, r.first,   r.count, r.rights};
+    unsigned returned;
+
+    memcpy(request, numbers, sizeof numbers);
+    memset(sheet, byte, DOCK_SHEET);
+    memset(answer, 0xee, DOCK_ANSWER * sizeof *answer);
+    returned = dock_step(tables, DOCK_TABLES, store, DOCK_STORE, sheet, DOCK_SHEET, request, DOCK_REQUEST, answer,
+                         DOCK_ANSWER);
+    equal(line, returned, result, "the result");
+    if (result == DOCK_NOT_IN_ORDER) {
+        holds(line, all((uint8_t *)answer, DOCK_ANSWER * sizeof *answer, 0xee), "the answer untouched");
+    } else {
+        equal(line, answer[0], result, "the answer's result");
+        equal(line, answer[1], ticket, "the asker's new number");
+        equal(line, answer[2], recipient, "the recipient's new number");
+    }
+    holds(line, memcmp(request, numbers, sizeof numbers) == 0, "the request untouched");
+    if (result != DOCK_NO_ENTRY && (result != DOCK_ACCEPTED || r.op == DOCK_READ || r.op == DOCK_WRITE))
+        holds(line, memcmp(tables, tables_before, DOCK_TABLES) == 0, "the tables untouched");
+    if (result != DOCK_ACCEPTED || r.op == DOCK_PASS || r.op == DOCK_RECALL || r.op == DOCK_READ)
+        holds(line, memcmp(store, store_before, DOCK_STORE) == 0, "the store untouched");
+    if (result != DOCK_ACCEPTED || r.op != DOCK_READ)
+        holds(line, all(sheet, DOCK_SHEET, byte), "the sheet buffer untouched");
+    free(tables_before);
+    free(store_before);
+}
+
+#define ACCEPTED(r, ticket, recipient) serve_one(__LINE__, (r), 0x11, DOCK_ACCEPTED, (ticket), (recipient))
+#define REFUSED(r, result) serve_one(__LINE__, (r), 0x22, (result), 0, 0)
+#define WRITTEN(r, byte) serve_one(__LINE__, (r), (byte), DOCK_ACCEPTED, 0, 0)
+
+/* Accepted, and the sheet buffer is full of the byte afterwards. */
+#define READS(r, byte)                                                                                                 \
+    do {                                                                                                               \
+        serve_one(__LINE__, (r), 0x33, DOCK_ACCEPTED, 0, 0);                                                           \
+        HOLDS(all(sheet, DOCK_SHEET, (byte)));                                                                         \
+    } while (0)
+
+/* Requests. */
+
+struct who {
+    uint16_t pad, program;
+};
+
+/* Two programs of pad 0, and one each of pads 1 and 2. */
+static const struct who capture = {0, 0}, viewer = {0, 1}, nurse = {1, 0}, next = {2, 3};
+
+static struct dock_request request_of(const uint16_t n[DOCK_REQUEST])
+{
+    struct dock_request r = {n[0], n[1], n[2], n[3], n[4], n[5], n[6], n[7], n[8]};
+    return r;
+}
+
+static struct dock_request take(struct who by, uint16_t count, uint16_t rights)
+{
+    struct dock_request r = {.pad = by.pad, .program = by.program, .op = DOCK_TAKE, .count = count, .rights = rights};
+    return r;
+}
+
+static struct dock_request pass(struct who by, uint16_t ticket, struct who to, uint16_t first, uint16_t count,
+                                uint16_t rights)
+{
+    struct dock_request r = {.pad = by.pad, .program = by.program, .op = DOCK_PASS, .ticket = ticket};
+    r.topad = to.pad;
+    r.toprogram = to.program;
+    r.first = first;
+    r.count = count;
+    r.rights = rights;
+    return r;
+}
+
+static struct dock_request recall(struct who by, uint16_t ticket)
+{
+    struct dock_request r = {.pad = by.pad, .program = by.program, .op = DOCK_RECALL, .ticket = ticket};
+    return r;
+}
+
+static struct dock_request give_back(struct who by, uint16_t ticket)
+{
+    struct dock_request r = {.pad = by.pad, .program = by.program, .op = DOCK_GIVE_BACK, .ticket = ticket};
+    return r;
+}
+
+static struct dock_request read_at(struct who by, uint16_t ticket, uint16_t first)
+{
+    struct dock_request r = {.pad = by.pad, .program = by.program, .op = DOCK_READ, .ticket = ticket, .first = first};
+    return r;
+}
+
+static struct dock_request write_at(struct who by, uint16_t ticket, uint16_t first)
+{
+    struct dock_request r = {.pad = by.pad, .program = by.program, .op = DOCK_WRITE, .ticket = ticket, .first = first};
+    return r;
+}
+
+/* The image, by the header's offsets. */
+
+struct name {
+    unsigned pad, program, number;
+};
+
+static unsigned get(size_t at)
+{
+    return tables[at] + 256u * tables[at + 1];
+}
+
+static void put(size_t at, unsigned number)
+{
+    tables[at] = (uint8_t)(number % 256);
+    tables[at + 1] = (uint8_t)(number / 256);
+}
+
+static void put_name(size_t at, struct name name)
+{
+    put(at + DOCK_NAME_PAD_AT, name.pad);
+    put(at + DOCK_NAME_PROGRAM_AT, name.program);
+    put(at + DOCK_NAME_NUMBER_AT, name.number);
+}
+
+static int is_name(size_t at, struct name name)
+{
+    return get(at + DOCK_NAME_PAD_AT) == name.pad && get(at + DOCK_NAME_PROGRAM_AT) == name.program &&
+           get(at + DOCK_NAME_NUMBER_AT) == name.number;
+}
+
+static size_t program_at(struct who who)
+{
+    return (size_t)DOCK_PROGRAM_SIZE * (DOCK_PROGRAMS * (size_t)who.pad + who.program);
+}
+
+static size_t last_at(struct who who)
+{
+    return program_at(who) + DOCK_LAST_AT;
+}
+
+static size_t place_at(struct who who, unsigned place)
+{
+    return program_at(who) + (size_t)DOCK_TICKET_SIZE * place;
+}
+
+static size_t entry_place_at(unsigned place)
+{
+    return DOCK_ENTRIES_AT + (size_t)DOCK_ENTRY_SIZE * place;
+}
+
+/* Where a live ticket is. The place is free to the library, so that it is looked for by its number. */
+static size_t ticket_at(int line, struct who who, unsigned number)
+{
+    unsigned place;
+    for (place = 0; place < DOCK_PLACES; place++) {
+        size_t at = place_at(who, place);
+        if (get(at + DOCK_TICKET_KIND_AT) != DOCK_KIND_FREE && get(at + DOCK_TICKET_NUMBER_AT) == number)
+            return at;
+    }
+    fail(line, "no such ticket in the image");
+    return 0;
+}
+
+static size_t entry_at(int line, struct name name)
+{
+    unsigned place;
+    for (place = 0; place < DOCK_ENTRIES; place++) {
+        size_t at = entry_place_at(place);
+        if (get(at + DOCK_ENTRY_LIVE_AT) == 1 && is_name(at + DOCK_ENTRY_NAME_AT, name))
+            return at;
+    }
+    fail(line, "no such entry in the image");
+    return 0;
+}
+
+static unsigned live_tickets(void)
+{
+    struct who who;
+    unsigned place, live = 0;
+    for (who.pad = 0; who.pad < DOCK_PADS; who.pad++)
+        for (who.program = 0; who.program < DOCK_PROGRAMS; who.program++)
+            for (place = 0; place < DOCK_PLACES; place++)
+                live += get(place_at(who, place) + DOCK_TICKET_KIND_AT) != DOCK_KIND_FREE;
+    return live;
+}
+
+static unsigned live_entries(void)
+{
+    unsigned place, live = 0;
+    for (place = 0; place < DOCK_ENTRIES; place++)
+        live += get(entry_place_at(place) + DOCK_ENTRY_LIVE_AT);
+    return live;
+}
+
+static unsigned sum_of_lasts(void)
+{
+    struct who who;
+    unsigned sum = 0;
+    for (who.pad = 0; who.pad < DOCK_PADS; who.pad++)
+        for (who.program = 0; who.program < DOCK_PROGRAMS; who.program++)
+            sum += get(last_at(who));
+    return sum;
+}
+
+/* Lengths. dock_step and dock_serve take the same five buffers. */
+
+typedef uint16_t serving(uint8_t *, size_t, uint8_t *, size_t, uint8_t *, size_t, const uint16_t *, size_t, uint16_t *,
+                         size_t);
+
+enum { BUFFERS = 5 };
+static const size_t element[BUFFERS] = {1, 1, 1, sizeof(uint16_t), sizeof(uint16_t)};
+
+/* Calls it with buffers of these lengths. Where it is not accepted, it must have written nothing. */
+static unsigned called(serving *call, const size_t length[BUFFERS])
+{
+    static const uint16_t take_one[DOCK_REQUEST] = {0, 0, DOCK_TAKE, 0, 0, 0, 0, 1, DOCK_RIGHT_READ};
+    void *buffer[BUFFERS], *before[BUFFERS];
+    unsigned result;
+    size_t b, i;
+
+    for (b = 0; b < BUFFERS; b++)
+        buffer[b] = block(length[b] * element[b], b == 0 ? 0 : 0x44); /* tables of zeros are empty */
+    for (i = 0; i < length[3]; i++)
+        ((uint16_t *)buffer[3])[i] = take_one[i % DOCK_REQUEST];
+    for (b = 0; b < BUFFERS; b++)
+        before[b] = copy(buffer[b], length[b] * element[b]);
+    result = call(buffer[0], length[0], buffer[1], length[1], buffer[2], length[2], buffer[3], length[3], buffer[4],
+                  length[4]);
+    for (b = 0; b < BUFFERS; b++) {
+        if (result != DOCK_ACCEPTED)
+            HOLDS(memcmp(buffer[b], before[b], length[b] * element[b]) == 0);
+        free(buffer[b]);
+        free(before[b]);
+    }
+    return result;
+}
+
+/* Accepted with the right lengths; 13 with each of the five one shorter, one longer, and 0. */
+static void lengths_of(serving *call, size_t n)
+{
+    const size_t right[BUFFERS] = {DOCK_TABLES, DOCK_STORE, DOCK_SHEET * n, DOCK_REQUEST * n, DOCK_ANSWER * n};
+    size_t length[BUFFERS], b;
+
+    EQUAL(called(call, right), DOCK_ACCEPTED);
+    for (b = 0; b < BUFFERS; b++) {
+        memcpy(length, right, sizeof length);
+        length[b] = right[b] - 1;
+        EQUAL(called(call, length), DOCK_LENGTH);
+        length[b] = right[b] + 1;
+        EQUAL(called(call, length), DOCK_LENGTH);
+        length[b] = 0;
+        EQUAL(called(call, length), DOCK_LENGTH);
+    }
+}
+
+/* dock_empty with tables and a store full of 1s, of these lengths. */
+static void emptied(size_t tables_length, size_t store_length, unsigned result)
+{
+    uint8_t *t = block(tables_length, 1), *s = block(store_length, 1);
+    uint8_t *kept = tables;
+
+    EQUAL(dock_empty(t, tables_length, s, store_length), result);
+    if (tables_length != DOCK_TABLES) {
+        HOLDS(all(t, tables_length, 1));
+    } else {
+        EQUAL(dock_in_order(t, tables_length), DOCK_ACCEPTED);
+        tables = t; /* read the image of these */
+        EQUAL(live_tickets(), 0);
+        EQUAL(live_entries(), 0);
+        EQUAL(sum_of_lasts(), 0);
+        tables = kept;
+    }
+    HOLDS(all(s, store_length, result == DOCK_ACCEPTED ? 0 : 1));
+    free(t);
+    free(s);
+}
+
+static void lengths(void)
+{
+    size_t length;
+
+    begin("lengths");
+    EQUAL(dock_tables_length(), DOCK_TABLES);
+    lengths_of(dock_step, 1);
+    lengths_of(dock_serve, 1);
+    lengths_of(dock_serve, 3);
+    emptied(DOCK_TABLES, DOCK_STORE, DOCK_ACCEPTED);
+    emptied(DOCK_TABLES - 1, DOCK_STORE, DOCK_LENGTH);
+    emptied(DOCK_TABLES + 1, DOCK_STORE, DOCK_LENGTH);
+    emptied(DOCK_TABLES, DOCK_STORE - 1, DOCK_LENGTH);
+    emptied(DOCK_TABLES, DOCK_STORE + 1, DOCK_LENGTH);
+    for (length = DOCK_TABLES - 1; length <= DOCK_TABLES + 1; length++) {
+        uint8_t *t = block(length, 0);
+        EQUAL(dock_in_order(t, length), length == DOCK_TABLES ? DOCK_ACCEPTED : DOCK_LENGTH);
+        EQUAL(dock_check(t, length, 0, 0, 1, 0, DOCK_RIGHT_READ), length == DOCK_TABLES ? DOCK_NO_ENTRY : DOCK_LENGTH);
+        HOLDS(all(t, length, 0));
+        free(t);
+    }
+    end();
+}
+
+/* Each operation is accepted once, with an effect that no other has. */
+static void operations(void)
+{
+    begin("operations");
+    start();
+    ACCEPTED(take(capture, 4, ALL), 1, 0); /* a number for the asker alone */
+    WRITTEN(write_at(capture, 1, 2), 65);  /* the sheet buffer's bytes in the store */
+    HOLDS(all(sheet_of_store(2), DOCK_SHEET, 65));
+    HOLDS(all(sheet_of_store(0), 2 * DOCK_SHEET, 0));
+    HOLDS(all(sheet_of_store(3), DOCK_STORE - 3 * DOCK_SHEET, 0));
+    READS(read_at(capture, 1, 2), 65); /* the store's bytes in the sheet buffer */
+    READS(read_at(capture, 1, 1), 0);
+    ACCEPTED(pass(capture, 1, viewer, 2, 1, DOCK_RIGHT_READ), 2, 1); /* a number for both */
+    READS(read_at(viewer, 1, 0), 65);
+    ACCEPTED(recall(capture, 2), 0, 0); /* what was lent is gone, the sheet as it was */
+    REFUSED(read_at(viewer, 1, 0), DOCK_NO_TICKET);
+    REFUSED(recall(capture, 2), DOCK_NO_TICKET);
+    READS(read_at(capture, 1, 2), 65);
+    ACCEPTED(give_back(capture, 1), 0, 0); /* the grant is gone, the sheet is zeros */
+    REFUSED(read_at(capture, 1, 2), DOCK_NO_TICKET);
+    HOLDS(all(store, DOCK_STORE, 0));
+    end();
+}
+
+/* A grant of one right alone allows that and refuses the rest, on the pad and at the dock. */
+static void rights(void)
+{
+    begin("rights");
+    start();
+    ACCEPTED(take(capture, 1, DOCK_RIGHT_READ), 1, 0);
+    READS(read_at(capture, 1, 0), 0);
+    REFUSED(write_at(capture, 1, 0), DOCK_RIGHT_LACKING);
+    REFUSED(pass(capture, 1, viewer, 0, 1, DOCK_RIGHT_READ), DOCK_RIGHT_LACKING);
+    EQUAL(dock_check(tables, DOCK_TABLES, 0, 0, 1, 0, DOCK_RIGHT_READ), DOCK_ACCEPTED);
+    EQUAL(dock_check(tables, DOCK_TABLES, 0, 0, 1, 0, DOCK_RIGHT_WRITE), DOCK_RIGHT_LACKING);
+    ACCEPTED(take(capture, 1, DOCK_RIGHT_WRITE), 2, 0);
+    REFUSED(read_at(capture, 2, 0), DOCK_RIGHT_LACKING);
+    WRITTEN(write_at(capture, 2, 0), 66);
+    HOLDS(all(sheet_of_store(1), DOCK_SHEET, 66));
+    REFUSED(pass(capture, 2, viewer, 0, 1, DOCK_RIGHT_WRITE), DOCK_RIGHT_LACKING);
+    EQUAL(dock_check(tables, DOCK_TABLES, 0, 0, 2, 1, DOCK_RIGHT_READ), DOCK_RIGHT_LACKING);
+    EQUAL(dock_check(tables, DOCK_TABLES, 0, 0, 2, 1, DOCK_RIGHT_WRITE), DOCK_ACCEPTED);
+    ACCEPTED(take(capture, 1, DOCK_RIGHT_PASS_ON), 3, 0);
+    REFUSED(read_at(capture, 3, 0), DOCK_RIGHT_LACKING);
+    REFUSED(write_at(capture, 3, 0), DOCK_RIGHT_LACKING);
+    REFUSED(pass(capture, 3, viewer, 0, 1, DOCK_RIGHT_READ), DOCK_RIGHT_LACKING);
+    REFUSED(pass(capture, 3, viewer, 0, 1, DOCK_RIGHT_READ + DOCK_RIGHT_WRITE), DOCK_RIGHT_LACKING);
+    ACCEPTED(pass(capture, 3, viewer, 0, 1, DOCK_RIGHT_PASS_ON), 4, 1);
+    EQUAL(dock_check(tables, DOCK_TABLES, 0, 0, 3, 2, DOCK_RIGHT_READ), DOCK_RIGHT_LACKING);
+    EQUAL(dock_check(tables, DOCK_TABLES, 0, 0, 3, 2, DOCK_RIGHT_PASS_ON), DOCK_FIELD); /* none that it answers for */
+    end();
+}
+
+/* 1 to 3: the request itself. */
+static void refused_requests(void)
+{
+    const struct who no_pad = {DOCK_PADS, 0}, no_program = {0, DOCK_PROGRAMS},
+                     last = {DOCK_PADS - 1, DOCK_PROGRAMS - 1};
+    struct dock_request r;
+
+    begin("refusals 1 to 3");
+    start();
+    ACCEPTED(take(last, 1, ALL), 1, 0);
+    REFUSED(take(no_pad, 1, ALL), DOCK_NO_PROGRAM);
+    REFUSED(take(no_program, 1, ALL), DOCK_NO_PROGRAM);
+    r = take(capture, 1, ALL);
+    r.op = DOCK_TAKE - 1;
+    REFUSED(r, DOCK_NO_OPERATION);
+    r.op = DOCK_WRITE + 1;
+    REFUSED(r, DOCK_NO_OPERATION);
+    REFUSED(take(capture, 0, ALL), DOCK_FIELD);
+    REFUSED(take(capture, DOCK_SHEETS + 1, ALL), DOCK_FIELD);
+    REFUSED(take(capture, 1, 0), DOCK_FIELD);
+    REFUSED(take(capture, 1, ALL + 1), DOCK_FIELD);
+    r = take(capture, 1, ALL);
+    r.ticket = 1;
+    REFUSED(r, DOCK_FIELD);
+    r = take(capture, 1, ALL);
+    r.topad = 1;
+    REFUSED(r, DOCK_FIELD);
+    r = take(capture, 1, ALL);
+    r.toprogram = 1;
+    REFUSED(r, DOCK_FIELD);
+    r = take(capture, 1, ALL);
+    r.first = 1;
+    REFUSED(r, DOCK_FIELD);
+    REFUSED(pass(last, 1, no_pad, 0, 1, ALL), DOCK_FIELD);
+    REFUSED(pass(last, 1, no_program, 0, 1, ALL), DOCK_FIELD);
+    REFUSED(read_at(last, 1, DOCK_SHEETS), DOCK_FIELD);
+    REFUSED(read_at(last, 0, 0), DOCK_FIELD);
+    EQUAL(dock_check(tables, DOCK_TABLES, 3, 7, 1, DOCK_SHEETS, DOCK_RIGHT_READ), DOCK_FIELD);
+    EQUAL(dock_check(tables, DOCK_TABLES, 3, 7, 1, 0, DOCK_RIGHT_READ + DOCK_RIGHT_WRITE), DOCK_FIELD);
+    end();
+}
+
+/* 4 to 8: the ticket. */
+static void refused_tickets(void)
+{
+    begin("refusals 4 to 8");
+    start();
+    ACCEPTED(take(capture, 4, ALL), 1, 0);
+    REFUSED(read_at(capture, 2, 0), DOCK_NO_TICKET);
+    REFUSED(read_at(viewer, 1, 0), DOCK_NO_TICKET); /* another's number */
+    ACCEPTED(pass(capture, 1, viewer, 0, 4, DOCK_RIGHT_READ + DOCK_RIGHT_PASS_ON), 2, 1);
+    ACCEPTED(pass(capture, 1, nurse, 0, 2, ALL), 3, 1);
+    REFUSED(read_at(capture, 2, 0), DOCK_WRONG_KIND); /* a recall */
+    REFUSED(write_at(capture, 3, 0), DOCK_WRONG_KIND);
+    REFUSED(pass(capture, 2, nurse, 0, 1, DOCK_RIGHT_READ), DOCK_WRONG_KIND);
+    REFUSED(recall(capture, 1), DOCK_WRONG_KIND);    /* a grant */
+    REFUSED(give_back(capture, 2), DOCK_WRONG_KIND); /* a recall, a child, a received grant */
+    REFUSED(give_back(viewer, 1), DOCK_WRONG_KIND);
+    REFUSED(give_back(nurse, 1), DOCK_WRONG_KIND);
+    READS(read_at(capture, 1, 3), 0);
+    REFUSED(read_at(capture, 1, 4), DOCK_BEYOND);
+    REFUSED(write_at(nurse, 1, 2), DOCK_BEYOND);
+    REFUSED(pass(capture, 1, next, 2, 3, ALL), DOCK_BEYOND);
+    ACCEPTED(pass(capture, 1, next, 2, 2, ALL), 4, 1);
+    EQUAL(dock_check(tables, DOCK_TABLES, 1, 0, 1, 1, DOCK_RIGHT_READ), DOCK_ACCEPTED);
+    EQUAL(dock_check(tables, DOCK_TABLES, 1, 0, 1, 2, DOCK_RIGHT_READ), DOCK_BEYOND);
+    REFUSED(write_at(viewer, 1, 0), DOCK_RIGHT_LACKING);
+    REFUSED(pass(viewer, 1, capture, 0, 1, DOCK_RIGHT_WRITE), DOCK_RIGHT_LACKING);
+    REFUSED(pass(capture, 1, capture, 0, 1, DOCK_RIGHT_READ), DOCK_TO_ONESELF);
+    end();
+}
+
+/* 9 to 12: places, numbers, sheets and entries run out. */
+static void refused_for_want(void)
+{
+    unsigned i;
+
+    begin("refusals 9 to 12");
+    start();
+    for (i = 1; i <= DOCK_PLACES; i++)
+        ACCEPTED(take(capture, 1, ALL), i, 0);
+    REFUSED(take(capture, 1, ALL), DOCK_NO_PLACE);
+    REFUSED(pass(capture, 1, nurse, 0, 1, ALL), DOCK_NO_PLACE); /* the asker has none */
+    ACCEPTED(take(nurse, 1, ALL), 1, 0);
+    REFUSED(pass(nurse, 1, capture, 0, 1, ALL), DOCK_NO_PLACE); /* the recipient has none */
+    ACCEPTED(give_back(capture, 3), 0, 0);
+    ACCEPTED(take(capture, 1, ALL), DOCK_PLACES + 1, 0);
+
+    start();
+    put(last_at(capture), 65534);
+    EQUAL(dock_in_order(tables, DOCK_TABLES), DOCK_ACCEPTED);
+    ACCEPTED(take(capture, 1, ALL), 65535, 0);
+    REFUSED(take(capture, 1, ALL), DOCK_NO_NUMBER);
+    REFUSED(pass(capture, 65535, nurse, 0, 1, ALL), DOCK_NO_NUMBER); /* the asker's are spent */
+    ACCEPTED(take(nurse, 1, ALL), 1, 0);
+    REFUSED(pass(nurse, 1, capture, 0, 1, ALL), DOCK_NO_NUMBER); /* the recipient's are spent */
+    put(last_at(viewer), 65535);
+    EQUAL(dock_in_order(tables, DOCK_TABLES), DOCK_ACCEPTED);
+    REFUSED(take(viewer, 1, ALL), DOCK_NO_NUMBER);
+
+    start();
+    ACCEPTED(take(capture, DOCK_SHEETS - 1, ALL), 1, 0);
+    REFUSED(take(nurse, 2, ALL), DOCK_NO_RUN);
+    ACCEPTED(take(nurse, 1, ALL), 1, 0);
+    REFUSED(take(nurse, 1, ALL), DOCK_NO_RUN);
+
+    start();
+    ACCEPTED(take(capture, 4, ALL), 1, 0);
+    ACCEPTED(pass(capture, 1, nurse, 0, 2, ALL), 2, 1);
+    ACCEPTED(pass(capture, 1, nurse, 2, 2, ALL), 3, 2);
+    EQUAL(dock_check(tables, DOCK_TABLES, 1, 0, 1, 0, DOCK_RIGHT_READ), DOCK_ACCEPTED);
+    ACCEPTED(recall(capture, 2), 0, 0);
+    ACCEPTED(recall(capture, 3), 0, 0);
+    EQUAL(dock_check(tables, DOCK_TABLES, 1, 0, 1, 0, DOCK_RIGHT_READ), DOCK_NO_ENTRY);
+    EQUAL(dock_check(tables, DOCK_TABLES, DOCK_PADS, 0, 1, 0, DOCK_RIGHT_READ), DOCK_NO_ENTRY);
+    EQUAL(live_tickets(), 3); /* the nurse's pad has not heard of it */
+    REFUSED(read_at(nurse, 1, 0), DOCK_NO_ENTRY);
+    EQUAL(live_tickets(), 2);
+    REFUSED(read_at(nurse, 1, 0), DOCK_NO_TICKET);
+    REFUSED(pass(nurse, 2, next, 0, 1, ALL), DOCK_NO_ENTRY);
+    EQUAL(live_tickets(), 1);
+    REFUSED(pass(nurse, 2, next, 0, 1, ALL), DOCK_NO_TICKET);
+    end();
+}
+
+/* Each routine refuses these tables, and changes nothing. */
+static void not_in_order(int line)
+{
+    uint8_t *before = copy(tables, DOCK_TABLES);
+    unsigned served;
+
+    equal(line, dock_in_order(tables, DOCK_TABLES), DOCK_NOT_IN_ORDER, "dock_in_order");
+    equal(line, dock_check(tables, DOCK_TABLES, 0, 0, 1, 0, DOCK_RIGHT_READ), DOCK_NOT_IN_ORDER, "dock_check");
+    serve_one(line, take(nurse, 1, ALL), 7, DOCK_NOT_IN_ORDER, 0, 0);
+    served = dock_serve(tables, DOCK_TABLES, store, DOCK_STORE, sheet, DOCK_SHEET, request, DOCK_REQUEST, answer,
+                        DOCK_ANSWER);
+    equal(line, served, DOCK_NOT_IN_ORDER, "dock_serve");
+    holds(line, all(sheet, DOCK_SHEET, 7), "the sheets untouched");
+    holds(line, all((uint8_t *)answer, DOCK_ANSWER * sizeof *answer, 0xee), "the answers untouched");
+    holds(line, memcmp(tables, before, DOCK_TABLES) == 0, "the tables untouched");
+    free(before);
+}
+
+/* 14, with the field put to a wrong number; then in order again. */
+static void spoilt(int line, size_t at, unsigned wrong)
+{
+    unsigned right = get(at);
+
+    put(at, wrong);
+    not_in_order(line);
+    put(at, right);
+    equal(line, dock_in_order(tables, DOCK_TABLES), DOCK_ACCEPTED, "dock_in_order, put right");
+}
+
+#define SPOILT(at, wrong) spoilt(__LINE__, (at), (wrong))
+
+/* 13 has its own group, lengths. */
+static void refused_tables(void)
+{
+    begin("refusal 14");
+    start();
+    ACCEPTED(take(capture, 1, ALL), 1, 0);
+    SPOILT(ticket_at(__LINE__, capture, 1) + DOCK_TICKET_KIND_AT, DOCK_KIND_RECALL + 1);
+    SPOILT(place_at(next, DOCK_PLACES - 1) + DOCK_TICKET_KIND_AT, DOCK_KIND_RECALL + 1);
+    SPOILT(entry_place_at(DOCK_ENTRIES - 1) + DOCK_ENTRY_LIVE_AT, 2);
+    SPOILT(ticket_at(__LINE__, capture, 1) + DOCK_TICKET_NUMBER_AT, 2); /* above last */
+    SPOILT(last_at(capture), 0);
+    end();
+}
+
+/* The tickets and entries of the image. */
+
+static void is_grant(int line, struct who who, unsigned number, unsigned kind, unsigned first, unsigned count,
+                     unsigned rights, struct name dock)
+{
+    size_t at = ticket_at(line, who, number);
+
+    equal(line, get(at + DOCK_TICKET_KIND_AT), kind, "a grant's kind");
+    equal(line, get(at + DOCK_TICKET_FIRST_AT), first, "a grant's first");
+    equal(line, get(at + DOCK_TICKET_COUNT_AT), count, "a grant's count");
+    equal(line, get(at + DOCK_TICKET_RIGHTS_AT), rights, "a grant's rights");
+    holds(line, is_name(at + DOCK_TICKET_DOCK_AT, dock), "a grant's dock name");
+}
+
+static void is_recall(int line, struct who who, unsigned number, unsigned own, struct name target)
+{
+    size_t at = ticket_at(line, who, number);
+
+    equal(line, get(at + DOCK_TICKET_KIND_AT), DOCK_KIND_RECALL, "a recall's kind");
+    equal(line, get(at + DOCK_TICKET_OWN_AT), own, "a recall's own");
+    holds(line, is_name(at + DOCK_TICKET_OTHER_AT, target), "a recall's target");
+}
+
+static void is_entry(int line, struct name name, struct name parent, unsigned first, unsigned count, unsigned rights)
+{
+    size_t at = entry_at(line, name);
+
+    if (parent.number == 0)
+        equal(line, get(at + DOCK_ENTRY_PARENT_AT + DOCK_NAME_NUMBER_AT), 0, "the number of the store as a parent");
+    else
+        holds(line, is_name(at + DOCK_ENTRY_PARENT_AT, parent), "an entry's parent");
+    equal(line, get(at + DOCK_ENTRY_FIRST_AT), first, "an entry's first");
+    equal(line, get(at + DOCK_ENTRY_COUNT_AT), count, "an entry's count");
+    equal(line, get(at + DOCK_ENTRY_RIGHTS_AT), rights, "an entry's rights");
+}
+
+/* What requests leave in the image. The numbers differ, so that no two fields can be confused. */
+static void image_read(void)
+{
+    const struct who a = {2, 3}, b = {2, 5}, c = {1, 6}, d = {3, 7}, e = {1, 2};
+    const struct name the_store = {0, 0, 0}, a1 = {2, 3, 1}, a3 = {2, 3, 3}, b1 = {2, 5, 1}, c1 = {1, 6, 1},
+                      c2 = {1, 6, 2}, d1 = {3, 7, 1}, d2 = {3, 7, 2}, e1 = {1, 2, 1};
+
+    begin("image, read");
+    EQUAL(DOCK_STORE, DOCK_SHEETS * DOCK_SHEET);
+    EQUAL(DOCK_LAST_AT, DOCK_PLACES * DOCK_TICKET_SIZE);
+    EQUAL(DOCK_PROGRAM_SIZE, DOCK_LAST_AT + 2);
+    EQUAL(DOCK_ENTRIES_AT, DOCK_PADS * DOCK_PROGRAMS * DOCK_PROGRAM_SIZE);
+    EQUAL(DOCK_TABLES, DOCK_ENTRIES_AT + DOCK_ENTRIES * DOCK_ENTRY_SIZE);
+    start();
+    ACCEPTED(take(c, 3, 1), 1, 0); /* sheets 0 to 2 */
+    ACCEPTED(take(a, 5, 7), 1, 0); /* sheets 3 to 7 */
+    ACCEPTED(take(a, 1, 7), 2, 0);
+    ACCEPTED(give_back(a, 2), 0, 0);
+    ACCEPTED(take(a, 6, 7), 3, 0);          /* sheets 8 to 13 */
+    ACCEPTED(pass(a, 3, b, 1, 4, 5), 4, 1); /* to the same pad: a child, sheets 9 to 12 */
+    ACCEPTED(pass(a, 3, c, 2, 3, 7), 5, 2); /* to another pad: sheets 10 to 12 */
+    ACCEPTED(pass(c, 2, d, 1, 2, 3), 3, 1); /* and on, to a third: sheets 11 and 12 */
+    ACCEPTED(pass(c, 2, e, 0, 1, 6), 4, 1); /* a child of a received grant: sheet 10 */
+    ACCEPTED(pass(b, 1, d, 3, 1, 1), 2, 2); /* a child's loan to another pad: sheet 12 */
+    EQUAL(live_tickets(), 13);
+    EQUAL(live_entries(), 6);
+    EQUAL(get(last_at(a)), 5);
+    EQUAL(get(last_at(b)), 2);
+    EQUAL(get(last_at(c)), 4);
+    EQUAL(get(last_at(d)), 2);
+    EQUAL(get(last_at(e)), 1);
+    EQUAL(sum_of_lasts(), 5 + 2 + 4 + 2 + 1);
+    is_grant(__LINE__, c, 1, DOCK_KIND_TAKEN, 0, 3, 1, c1);
+    is_grant(__LINE__, a, 1, DOCK_KIND_TAKEN, 3, 5, 7, a1);
+    is_grant(__LINE__, a, 3, DOCK_KIND_TAKEN, 8, 6, 7, a3);
+    is_grant(__LINE__, b, 1, DOCK_KIND_CHILD, 9, 4, 5, a3);
+    HOLDS(is_name(ticket_at(__LINE__, b, 1) + DOCK_TICKET_OTHER_AT, a3)); /* its parent */
+    is_grant(__LINE__, c, 2, DOCK_KIND_RECEIVED, 10, 3, 7, c2);
+    is_grant(__LINE__, d, 1, DOCK_KIND_RECEIVED, 11, 2, 3, d1);
+    is_grant(__LINE__, e, 1, DOCK_KIND_CHILD, 10, 1, 6, c2);
+    HOLDS(is_name(ticket_at(__LINE__, e, 1) + DOCK_TICKET_OTHER_AT, c2));
+    is_grant(__LINE__, d, 2, DOCK_KIND_RECEIVED, 12, 1, 1, d2);
+    is_recall(__LINE__, a, 4, 3, b1);
+    is_recall(__LINE__, a, 5, 3, c2);
+    is_recall(__LINE__, c, 3, 2, d1);
+    is_recall(__LINE__, c, 4, 2, e1);
+    is_recall(__LINE__, b, 2, 1, d2);
+    is_entry(__LINE__, c1, the_store, 0, 3, 1);
+    is_entry(__LINE__, a1, the_store, 3, 5, 7);
+    is_entry(__LINE__, a3, the_store, 8, 6, 7);
+    is_entry(__LINE__, c2, a3, 10, 3, 7);
+    is_entry(__LINE__, d1, c2, 11, 2, 3);
+    is_entry(__LINE__, d2, a3, 12, 1, 1);
+    end();
+}
+
+/* What a host writes into the image is what the library reads there: a taken grant and its entry. */
+static void image_written(void)
+{
+    const struct name name = {2, 3, 9}, the_store = {0, 0, 0}, nobody = {9, 9, 0};
+    const size_t ticket = place_at(next, 5), entry = entry_place_at(77);
+    size_t i;
+
+    begin("image, written");
+    start();
+    put(last_at(next), 9);
+    put(ticket + DOCK_TICKET_KIND_AT, DOCK_KIND_TAKEN);
+    put(ticket + DOCK_TICKET_NUMBER_AT, 9);
+    put(ticket + DOCK_TICKET_FIRST_AT, 200);
+    put(ticket + DOCK_TICKET_COUNT_AT, 2);
+    put(ticket + DOCK_TICKET_RIGHTS_AT, DOCK_RIGHT_READ + DOCK_RIGHT_WRITE);
+    put_name(ticket + DOCK_TICKET_DOCK_AT, name);
+    put(entry + DOCK_ENTRY_LIVE_AT, 1);
+    put_name(entry + DOCK_ENTRY_NAME_AT, name);
+    put_name(entry + DOCK_ENTRY_PARENT_AT, the_store);
+    put(entry + DOCK_ENTRY_FIRST_AT, 200);
+    put(entry + DOCK_ENTRY_COUNT_AT, 2);
+    put(entry + DOCK_ENTRY_RIGHTS_AT, DOCK_RIGHT_READ + DOCK_RIGHT_WRITE);
+    EQUAL(dock_in_order(tables, DOCK_TABLES), DOCK_ACCEPTED);
+    EQUAL(dock_check(tables, DOCK_TABLES, 2, 3, 9, 199, DOCK_RIGHT_READ), DOCK_BEYOND);
+    EQUAL(dock_check(tables, DOCK_TABLES, 2, 3, 9, 200, DOCK_RIGHT_READ), DOCK_ACCEPTED);
+    EQUAL(dock_check(tables, DOCK_TABLES, 2, 3, 9, 201, DOCK_RIGHT_WRITE), DOCK_ACCEPTED);
+    EQUAL(dock_check(tables, DOCK_TABLES, 2, 3, 9, 202, DOCK_RIGHT_READ), DOCK_BEYOND);
+    WRITTEN(write_at(next, 9, 1), 67);
+    HOLDS(all(sheet_of_store(201), DOCK_SHEET, 67));
+
+    /* Each field that counts, put wrong by itself, is seen. */
+    SPOILT(last_at(next), 8);
+    SPOILT(ticket + DOCK_TICKET_KIND_AT, DOCK_KIND_FREE);
+    SPOILT(ticket + DOCK_TICKET_KIND_AT, DOCK_KIND_RECEIVED);
+    SPOILT(ticket + DOCK_TICKET_KIND_AT, DOCK_KIND_CHILD);
+    SPOILT(ticket + DOCK_TICKET_KIND_AT, DOCK_KIND_RECALL);
+    SPOILT(ticket + DOCK_TICKET_NUMBER_AT, 8);
+    SPOILT(ticket + DOCK_TICKET_FIRST_AT, 199);
+    SPOILT(ticket + DOCK_TICKET_COUNT_AT, 3);
+    SPOILT(ticket + DOCK_TICKET_RIGHTS_AT, DOCK_RIGHT_READ);
+    SPOILT(ticket + DOCK_TICKET_DOCK_AT + DOCK_NAME_PAD_AT, 1);
+    SPOILT(ticket + DOCK_TICKET_DOCK_AT + DOCK_NAME_PROGRAM_AT, 2);
+    SPOILT(ticket + DOCK_TICKET_DOCK_AT + DOCK_NAME_NUMBER_AT, 8);
+    SPOILT(entry + DOCK_ENTRY_LIVE_AT, 0);
+    SPOILT(entry + DOCK_ENTRY_NAME_AT + DOCK_NAME_PAD_AT, 1);
+    SPOILT(entry + DOCK_ENTRY_NAME_AT + DOCK_NAME_PROGRAM_AT, 2);
+    SPOILT(entry + DOCK_ENTRY_NAME_AT + DOCK_NAME_NUMBER_AT, 8);
+    SPOILT(entry + DOCK_ENTRY_PARENT_AT + DOCK_NAME_NUMBER_AT, 1);
+    SPOILT(entry + DOCK_ENTRY_FIRST_AT, 199);
+    SPOILT(entry + DOCK_ENTRY_COUNT_AT, 3);
+    SPOILT(entry + DOCK_ENTRY_RIGHTS_AT, DOCK_RIGHT_READ);
+
+    /* What says nothing may be anything. */
+    put(ticket + DOCK_TICKET_OWN_AT, 65535);
+    memset(tables + ticket + DOCK_TICKET_OTHER_AT, 0xff, DOCK_TICKET_FIRST_AT - DOCK_TICKET_OTHER_AT);
+    for (i = DOCK_TICKET_KIND_AT + 2; i < DOCK_TICKET_SIZE; i++)
+        tables[place_at(next, 4) + i] = 0xff; /* a free place */
+    for (i = DOCK_ENTRY_LIVE_AT + 2; i < DOCK_ENTRY_SIZE; i++)
+        tables[entry_place_at(78) + i] = 0xff;      /* no entry */
+    put_name(entry + DOCK_ENTRY_PARENT_AT, nobody); /* number 0: the store all the same */
+    EQUAL(dock_in_order(tables, DOCK_TABLES), DOCK_ACCEPTED);
+    READS(read_at(next, 9, 1), 67);
+    EQUAL(live_tickets(), 1);
+    EQUAL(live_entries(), 1);
+    is_grant(__LINE__, next, 9, DOCK_KIND_TAKEN, 200, 2, DOCK_RIGHT_READ + DOCK_RIGHT_WRITE, name);
+    is_entry(__LINE__, name, the_store, 200, 2, DOCK_RIGHT_READ + DOCK_RIGHT_WRITE);
+    end();
+}
+
+/* The ward's story: each request's nine numbers and the byte that its sheet buffer is full of. */
+enum { WARD = 17 };
+static const uint16_t ward[WARD][DOCK_REQUEST + 1] = {
+    {0, 0, 1, 0, 0, 0, 0, 4, 7, 0}, {0, 0, 6, 1, 0, 0, 0, 0, 0, 65}, {0, 0, 2, 1, 0, 1, 0, 2, 1, 0},
+    {0, 1, 5, 1, 0, 0, 0, 0, 0, 0}, {0, 1, 6, 1, 0, 0, 0, 0, 0, 66}, {0, 0, 2, 1, 1, 0, 0, 1, 1, 0},
+    {1, 0, 5, 1, 0, 0, 0, 0, 0, 0}, {1, 0, 6, 1, 0, 0, 0, 0, 0, 66}, {1, 0, 5, 1, 0, 0, 1, 0, 0, 0},
+    {0, 0, 3, 3, 0, 0, 0, 0, 0, 0}, {1, 0, 5, 1, 0, 0, 0, 0, 0, 0},  {1, 0, 5, 1, 0, 0, 0, 0, 0, 0},
+    {0, 0, 3, 2, 0, 0, 0, 0, 0, 0}, {0, 1, 5, 1, 0, 0, 0, 0, 0, 0},  {0, 0, 4, 1, 0, 0, 0, 0, 0, 0},
+    {2, 3, 1, 0, 0, 0, 0, 4, 7, 0}, {2, 3, 5, 1, 0, 0, 0, 0, 0, 0},
+};
+
+/* dock_serve does what as many dock_steps do, and so does dock_ask. */
+static void serving_many(void)
+{
+    uint8_t *many_tables = block(DOCK_TABLES, 1), *many_store = block(DOCK_STORE, 1);
+    uint8_t *sheets = block(WARD * DOCK_SHEET, 0), *many_sheets;
+    uint16_t *requests = block(WARD * DOCK_REQUEST * sizeof *requests, 0);
+    uint16_t *answers = block(WARD * DOCK_ANSWER * sizeof *answers, 1);
+    uint16_t *many_answers = block(WARD * DOCK_ANSWER * sizeof *answers, 2);
+    struct dock *dock = block(sizeof *dock, 3);
+    struct dock_answer told;
+    unsigned served;
+    size_t i;
+
+    begin("serving many");
+    for (i = 0; i < WARD; i++) {
+        memcpy(requests + DOCK_REQUEST * i, ward[i], DOCK_REQUEST * sizeof *requests);
+        memset(sheets + DOCK_SHEET * i, ward[i][DOCK_REQUEST], DOCK_SHEET);
+    }
+    many_sheets = copy(sheets, WARD * DOCK_SHEET);
+    start();
+    EQUAL(dock_empty(many_tables, DOCK_TABLES, many_store, DOCK_STORE), DOCK_ACCEPTED);
+    served = dock_serve(many_tables, DOCK_TABLES, many_store, DOCK_STORE, many_sheets, WARD * DOCK_SHEET, requests,
+                        WARD * DOCK_REQUEST, many_answers, WARD * DOCK_ANSWER);
+    EQUAL(served, DOCK_ACCEPTED);
+    dock_start(dock);
+    for (i = 0; i < WARD; i++) {
+        const uint16_t *r = ward[i];
+        struct dock_request asked = request_of(r);
+        uint8_t *asked_sheet = copy(sheets + DOCK_SHEET * i, DOCK_SHEET);
+        uint16_t *one = answers + DOCK_ANSWER * i;
+
+        told = dock_ask(dock, asked, asked_sheet);
+        /* One sheet and one answer at a time, each in a block of its own length. */
+        memcpy(sheet, sheets + DOCK_SHEET * i, DOCK_SHEET);
+        memcpy(request, r, DOCK_REQUEST * sizeof *request);
+        dock_step(tables, DOCK_TABLES, store, DOCK_STORE, sheet, DOCK_SHEET, request, DOCK_REQUEST, answer,
+                  DOCK_ANSWER);
+        memcpy(sheets + DOCK_SHEET * i, sheet, DOCK_SHEET);
+        memcpy(one, answer, DOCK_ANSWER * sizeof *answer);
+        HOLDS(told.result == one[0] && told.ticket == one[1] && told.recipient == one[2]);
+        HOLDS(memcmp(asked_sheet, sheet, DOCK_SHEET) == 0);
+        free(asked_sheet);
+    }
+    HOLDS(memcmp(tables, many_tables, DOCK_TABLES) == 0);
+    HOLDS(memcmp(store, many_store, DOCK_STORE) == 0);
+    HOLDS(memcmp(sheets, many_sheets, WARD * DOCK_SHEET) == 0);
+    HOLDS(memcmp(answers, many_answers, WARD * DOCK_ANSWER * sizeof *answers) == 0);
+    HOLDS(memcmp(tables, dock->tables, DOCK_TABLES) == 0);
+    HOLDS(memcmp(store, dock->store, DOCK_STORE) == 0);
+    served = dock_serve(many_tables, DOCK_TABLES, many_store, DOCK_STORE, many_sheets, 0, requests, 0, many_answers, 0);
+    EQUAL(served, DOCK_ACCEPTED); /* no requests */
+    HOLDS(memcmp(tables, many_tables, DOCK_TABLES) == 0);
+    HOLDS(memcmp(store, many_store, DOCK_STORE) == 0);
+
+    /* dock_ask on tables that are not in order: 14 0 0. */
+    dock->tables[DOCK_TICKET_KIND_AT] = DOCK_KIND_RECALL + 1;
+    told = dock_ask(dock, take(capture, 1, ALL), sheet);
+    HOLDS(told.result == DOCK_NOT_IN_ORDER && told.ticket == 0 && told.recipient == 0);
+    end();
+    free(many_tables);
+    free(many_store);
+    free(sheets);
+    free(many_sheets);
+    free(requests);
+    free(answers);
+    free(many_answers);
+    free(dock);
+}
+
+int main(void)
+{
+    tables = block(DOCK_TABLES, 1);
+    store = block(DOCK_STORE, 1);
+    sheet = block(DOCK_SHEET, 1);
+    request = block(DOCK_REQUEST * sizeof *request, 1);
+    answer = block(DOCK_ANSWER * sizeof *answer, 1);
+    lengths();
+    operations();
+    rights();
+    refused_requests();
+    refused_tickets();
+    refused_for_want();
+    refused_tables();
+    image_read();
+    image_written();
+    serving_many();
+    printf("constants: %u checks passed\n", passed);
+    free(tables);
+    free(store);
+    free(sheet);
+    free(request);
+    free(answer);
+    return 0;
+}
