@@ -27,7 +27,7 @@ const REQUEST: usize = 9;
 
 const ANSWER: usize = 3;
 
-fn request_in(numbers: &[u16]) -> Request
+pub fn request_in(numbers: &[u16]) -> Request
     requires { ⌜ 9 ≤ length (now numbers) ⌝ }
     ensures { λ r. ⌜ r ≡ requestIn (now (numbers .entry)) ⌝ }
 {

@@ -1,4 +1,5 @@
 //! Times the proved library against the model on one machine, with the same requests from the same tables.
+//! `sh bench/run` builds and runs it.
 //!
 //! usage: bench [REQUESTS] [SEED]     REQUESTS for each trace, usually 4000
 //!
@@ -6,6 +7,8 @@
 //! tables and store; they are put back before the clock starts, and all buffers are used again, so that no
 //! run pays for fresh memory. A trace is made once, from the model, and its mix keeps the tables about as
 //! full as they were: mostly reads and writes, some passes, recalls, takes and give backs, some refused.
+
+mod beside;
 
 use dock::raw;
 use image::random::Rng;
@@ -226,28 +229,21 @@ fn time(trace: &Trace) -> bool {
     let untested = best(n, &mut buffers, reset, |b| model_run(b, State::step_in_order));
     agree &= buffers.answers == wanted;
 
+    // The inner step alone: each request on the tables that the trace starts with.
+    let inner = best(n, &mut buffers, reset, |b| {
+        beside::inner(&b.tables, &mut b.store, &b.numbers);
+    });
+
     reset(&mut buffers);
     let turns = 500;
-    let order = best(
-        turns,
-        &mut buffers,
-        |_| (),
-        |b| {
-            for _ in 0..turns {
-                assert_eq!(raw::in_order(std::hint::black_box(&b.tables)), 0);
-            }
-        },
-    );
-    let model_order = best(
-        turns,
-        &mut buffers,
-        |_| (),
-        |b| {
-            for _ in 0..turns {
-                assert!(std::hint::black_box(&b.state).in_order());
-            }
-        },
-    );
+    let repeat = |b: &mut Buffers, test: fn(&Buffers) -> bool| {
+        for _ in 0..turns {
+            assert!(test(std::hint::black_box(b)));
+        }
+    };
+    let image_order = best(turns, &mut buffers, |_| (), |b| repeat(b, |b| raw::in_order(&b.tables) == 0));
+    let model_order = best(turns, &mut buffers, |_| (), |b| repeat(b, |b| b.state.in_order()));
+    let order = best(turns, &mut buffers, |_| (), |b| assert!(beside::order(&b.tables, turns as u32)));
 
     let (tickets, entries) = (trace.start.tickets().count(), trace.start.entries().count());
     let refused = trace.answers.iter().filter(|answer| answer.result != 0).count();
@@ -255,11 +251,11 @@ fn time(trace: &Trace) -> bool {
     println!(
         "{fill}: {tickets} tickets ({left} at the end), {entries} entries, {n} requests, {refused} refused"
     );
-    row("one by one, both test the order", single, tested);
-    row("one by one, the model tests no order", single, untested);
-    row(&format!("{BATCH} at once, the model tests the order"), batch, tested);
-    row(&format!("{BATCH} at once, the model tests no order"), batch, untested);
-    row("the test of the order", order, model_order);
+    row("single call; the model tests the order too", single, tested);
+    row(&format!("batch of {BATCH}; the model tests no order"), batch, untested);
+    row("inner step; the model tests no order", inner, untested);
+    row("order test", order, model_order);
+    row("order test of an image", image_order, model_order);
     if !agree {
         println!("  the answers differ");
     }

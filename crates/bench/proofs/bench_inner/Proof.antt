@@ -1,0 +1,51 @@
+use Rattle.batch.proofs.Refusals.{passed}
+use borrow.Author.Needs.{needs}
+use Rattle.bench.proofs.bench_inner.Statement.{statement}
+use Rattle.bench.proofs.bench_inner.Tie as tie
+
+returns : tie.Need-returns
+returns c = search needs
+
+returns-2 : tie.Need-returns-2
+returns-2 c = search needs
+
+returns-3 : tie.Need-returns-3
+returns-3 c = search needs
+
+tables-requires : tie.Need-tables-requires
+tables-requires c κs = search needs
+
+in-order-requires : tie.Need-in-order-requires
+in-order-requires c κs = search needs
+
+returns-4 : tie.Need-returns-4
+returns-4 c = search needs
+
+serve-each-requires : tie.Need-serve-each-requires
+serve-each-requires c κs =
+    let c5 = c .before .before .before .before .before in
+    (record { store = c5 .before .if2 .left; sheet = c5 .if3 .left }, passed (c .before .before .before .in-order .ensures) (c .before .before .if4 .left))
+
+same-length : tie.Need-same-length
+same-length c = search needs
+
+same-length-2 : tie.Need-same-length-2
+same-length-2 c = search needs
+
+returns-5 : tie.Need-returns-5
+returns-5 c = search needs
+
+pub bench-inner-spec : {M : Type 1} → statement M
+bench-inner-spec =
+    tie.close
+    (tie.spec
+    returns
+    returns-2
+    returns-3
+    tables-requires
+    in-order-requires
+    returns-4
+    serve-each-requires
+    same-length
+    same-length-2
+    returns-5)
