@@ -33,7 +33,12 @@ fn serve_each(t: Tables, store: &mut [u8], sheet: &mut [u8], requests: &[u16]) -
 
 // The step past 13 and 14, once for each request, each on the same tables.
 #[no_mangle]
-pub extern "C" fn bench_inner(tables: &[u8], store: &mut [u8], sheet: &mut [u8], requests: &[u16]) -> u16 {
+pub extern "C" fn bench_inner(
+    tables: &[u8],
+    store: &mut [u8],
+    sheet: &mut [u8],
+    requests: &[u16],
+) -> u16 {
     if tables.len() != TABLES {
         return 13;
     }
