@@ -9,14 +9,14 @@ use Rattle.machine.specs.State.{State, sheetAt}
 use Rattle.machine.specs.Step.{step}
 use Rattle.machine.specs.Sequence.{Sent, enter, after}
 use Rattle.batch.specs.Numbers.{requestAt}
-use Rattle.batch.specs.Sequence.{Begins, met, outcomeAt}
+use Rattle.batch.specs.Sequence.{Start, met, outcomeAt}
 
 after-last : (s : State) (is : List Sent) (i : Sent) → after s (is ++ i ∷ []) ≡ step (enter (after s is) i) (i .request) .state
 unfolding after
 after-last s [] i = refl
 after-last s (j ∷ is) i = after-last (step (enter s j) (j .request) .state) is i
 
-module _ (b : Begins) (n : ℕ) (sent : ℕ → Sent) (requests : (i : ℕ) → i < n → sent i .request ≡ requestAt i (b .requests))
+module _ (b : Start) (n : ℕ) (sent : ℕ → Sent) (requests : (i : ℕ) → i < n → sent i .request ≡ requestAt i (b .requests))
     (sheets : (i : ℕ) → i < n → sent i .sheet ≡ sheetAt i (b .sheets)) where
   -- the first i of them
   abbrev pub firstSent : ℕ → List Sent

@@ -7,16 +7,16 @@ use mathlib.Core.List.{List}
 use lib.Dec.{eqb}
 use lib.ListN.{length}
 use borrow.Author.Tests.{eqb-true, eqb-false, eq-eqb, ne-eqb, not-true, not-false}
-use Rattle.machine.specs.Refusal.{_when_else_}
 use Rattle.lists.proofs.Tests.{Case, pass, fail, case, and-l, and-r, and-false}
 use Rattle.tables.specs.declared.Tables.{Tables}
 use Rattle.tables.specs.Lookup.{Sized}
 use Rattle.tables.specs.Order.{inOrder}
+use Rattle.machine.specs.Refusal.{_when_else_}
 use Rattle.image.specs.Image.{encode, decode, isImage}
 use Rattle.image.proofs.RoundTrip.{decode-encode}
 use Rattle.batch.specs.Numbers.{countOf}
-use Rattle.batch.specs.Sequence.{beginsWith, Whole, AllServed}
-use Rattle.batch.specs.Batch.{Buffers, lengthsFit, lengthsOk, tablesOk, batchRefusal, begun, allServed, untouched, batch, Leaves}
+use Rattle.batch.specs.Sequence.{startWith, Whole, AllServed}
+use Rattle.batch.specs.Batch.{Buffers, lengthsFit, lengthsOk, tablesOk, batchRefusal, startOf, allServed, untouched, batch, Leaves}
 
 -- ---- a test in the code, by what its routine ensures
 pub passed : {r b : Bool} → r ≡ b → not r ≡ false → b ≡ true
@@ -47,6 +47,10 @@ pub whole : (b : Buffers) → lengthsOk b ≡ true → Whole (countOf (b .reques
 whole b h =
     let f = fit (length (b .tables)) (length (b .store)) (length (b .sheets)) (length (b .requests)) (length (b .answers)) h in
     record { store = f .store; sheets = f .sheets; requests = f .requests; answers = f .answers }
+
+pub image-whole : (b : Buffers) → lengthsOk b ≡ true → length (b .tables) ≡ 11328
+image-whole b h =
+    fit (length (b .tables)) (length (b .store)) (length (b .sheets)) (length (b .requests)) (length (b .answers)) h .tables
 
 -- a multiple of three is so many threes
 pub by-thirds : (answers n : ℕ) → answers % 3 ≡ 0 → eqb (answers / 3) n ≡ eqb answers (3 * n)
@@ -101,14 +105,14 @@ is-served b h o = rw (h, o)
 
 pub leaves-0 : (b : Buffers) → lengthsOk b ≡ true → tablesOk (b .tables) ≡ true → (t : Tables) → Sized t
     → (start : Tables) → start ≡ decode (b .tables) → (tables′ store′ sheets′ answers′ : List ℕ)
-    → AllServed (beginsWith start (b .store) (b .sheets) (b .requests)) (countOf (b .requests)) t store′ sheets′ answers′
+    → AllServed (startWith start (b .store) (b .sheets) (b .requests)) (countOf (b .requests)) t store′ sheets′ answers′
     → tables′ ≡ encode t → Leaves b 0 tables′ store′ sheets′ answers′
 unfolding allServed
 leaves-0 b h o t sized start read tables′ store′ sheets′ answers′ served e =
     let is = is-served b h o in
-    let all : AllServed (begun b) (countOf (b .requests)) t store′ sheets′ answers′ =
+    let all : AllServed (startOf b) (countOf (b .requests)) t store′ sheets′ answers′ =
     subst
-    (λ (x : Tables). AllServed (beginsWith x (b .store) (b .sheets) (b .requests)) (countOf (b .requests)) t store′ sheets′ answers′)
+    (λ (x : Tables). AllServed (startWith x (b .store) (b .sheets) (b .requests)) (countOf (b .requests)) t store′ sheets′ answers′)
     read served in
     record {
       result = λ i. is i .result;

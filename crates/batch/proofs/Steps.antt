@@ -1,12 +1,13 @@
 -- A batch request by request: what holds before the i-th, that it holds before the next, and what it comes to at the end.
 use Prim.Native.Nat.{ℕ, zero, suc, _+_, _*_, _≤_, _<_}
-use native.Mathlib.Omega.{arith}
 use native.Mathlib.Numerals.{add-one}
+use native.Mathlib.Omega.{arith}
 use mathlib.Core.Path.{_≡_, refl, sym, ap, subst, _∙_}
 use mathlib.Core.Bool.{Bool, true}
 use mathlib.Core.List.{List}
 use lib.ListN.{length, take, drop}
 use borrow.Rule.Slice.PartMut.{putMid}
+use Rattle.lists.proofs.PartLaws.{Written, written-none, written-next, written-more, written-all}
 use Rattle.tables.specs.declared.Tables.{Tables}
 use Rattle.tables.specs.Order.{inOrder, noFarChild}
 use Rattle.tables.specs.Lookup.{Sized}
@@ -16,19 +17,18 @@ use Rattle.machine.specs.Step.{step}
 use Rattle.preservation.proofs.StepKeepsOrder.{PassesTests, step-keeps-tests}
 use Rattle.served.specs.Outcomes.{stateOf}
 use Rattle.serve.specs.Contract.{HandsBack}
-use Rattle.lists.proofs.PartLaws.{Written, written-none, written-next, written-more, written-all}
 use Rattle.batch.specs.Numbers.{requestAt, answerNumbers}
-use Rattle.batch.specs.Sequence.{Begins, met, outcomeAt, AllServed}
+use Rattle.batch.specs.Sequence.{Start, met, outcomeAt, AllServed}
 use Rattle.batch.proofs.Numbers.{answer-long}
 
 -- the i-th request's own sheet buffer and answer
-abbrev pub sheetPart : Begins → ℕ → List ℕ
+abbrev pub sheetPart : Start → ℕ → List ℕ
 sheetPart b i = outcomeAt b i .state .sheet
 
-abbrev pub answerPart : Begins → ℕ → List ℕ
+abbrev pub answerPart : Start → ℕ → List ℕ
 answerPart b i = answerNumbers (outcomeAt b i .answer)
 
-pub record Going (b : Begins) (n : ℕ) (room : List ℕ) (keeps : Bool) (i : ℕ) (t : Tables) (store′ sheets′ answers′ : List ℕ) (sure : Bool) : Type 0 where
+pub record Going (b : Start) (n : ℕ) (room : List ℕ) (keeps : Bool) (i : ℕ) (t : Tables) (store′ sheets′ answers′ : List ℕ) (sure : Bool) : Type 0 where
   pub inside : i ≤ n
   pub tables : t ≡ met b i .tables
   pub store : store′ ≡ met b i .store
@@ -38,7 +38,7 @@ pub record Going (b : Begins) (n : ℕ) (room : List ℕ) (keeps : Bool) (i : �
   pub ordered : sure ≡ true → inOrder t ≡ true
   pub kept : keeps ≡ true → PassesTests (met b i .tables)
 
-pub begins : (b : Begins) (n : ℕ) (room : List ℕ) (keeps : Bool) → length (b .store) ≡ 16384 → Sized (b .tables)
+pub begins : (b : Start) (n : ℕ) (room : List ℕ) (keeps : Bool) → length (b .store) ≡ 16384 → Sized (b .tables)
     → inOrder (b .tables) ≡ true → (keeps ≡ true → noFarChild (b .tables) ≡ true)
     → Going b n room keeps 0 (b .tables) (b .store) (b .sheets) room true
 unfolding met
@@ -53,12 +53,12 @@ begins b n room keeps long sized order far = record {
   kept = λ e. record { sized = sized; order = order; noFar = far e };
 }
 
-met-sheet : (b : Begins) (i : ℕ) → met b i .sheet ≡ sheetAt i (b .sheets)
+met-sheet : (b : Start) (i : ℕ) → met b i .sheet ≡ sheetAt i (b .sheets)
 unfolding met
 met-sheet b zero = refl
 met-sheet b (suc i) = refl
 
-module _ (b : Begins) (n : ℕ) (room : List ℕ) (keeps : Bool) (i : ℕ) (t : Tables) (store sheets answers : List ℕ) (sure : Bool)
+module _ (b : Start) (n : ℕ) (room : List ℕ) (keeps : Bool) (i : ℕ) (t : Tables) (store sheets answers : List ℕ) (sure : Bool)
     (g : Going b n room keeps i t store sheets answers sure) where
   pub ends : n ≤ i → length (b .sheets) ≡ 64 * n → length room ≡ 3 * n → AllServed b n t store sheets answers
   ends h a c =

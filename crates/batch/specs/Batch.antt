@@ -9,7 +9,7 @@ use Rattle.tables.specs.Order.{inOrder}
 use Rattle.machine.specs.Refusal.{_when_else_}
 use Rattle.image.specs.Image.{encode, decode, isImage}
 use Rattle.batch.specs.Numbers.{countOf}
-use Rattle.batch.specs.Sequence.{Begins, met, sheetsOf, answersOf}
+use Rattle.batch.specs.Sequence.{Start, met, sheetsOf, answersOf}
 
 -- n requests: 64 n bytes of sheets, 9 n numbers of requests, 3 n of answers
 pub record Buffers : Type 0 where
@@ -49,18 +49,18 @@ pub record Left : Type 0 where
   pub sheets : List ℕ
   pub answers : List ℕ
 
-abbrev pub begun : Buffers → Begins
-begun b = record { tables = decode (b .tables); store = b .store; sheets = b .sheets; requests = b .requests }
+abbrev pub startOf : Buffers → Start
+startOf b = record { tables = decode (b .tables); store = b .store; sheets = b .sheets; requests = b .requests }
 
 unfoldable pub allServed : Buffers → Left
 allServed b =
     let n = countOf (b .requests) in
     record {
       result = 0;
-      tables = encode (met (begun b) n .tables);
-      store = met (begun b) n .store;
-      sheets = sheetsOf (begun b) n;
-      answers = answersOf (begun b) n;
+      tables = encode (met (startOf b) n .tables);
+      store = met (startOf b) n .store;
+      sheets = sheetsOf (startOf b) n;
+      answers = answersOf (startOf b) n;
     }
 
 unfoldable pub untouched : Buffers → ℕ → Left
@@ -86,4 +86,4 @@ pub record Leaves (b : Buffers) (result′ : ℕ) (tables′ store′ sheets′ 
   pub store : store′ ≡ batch b .store
   pub sheets : sheets′ ≡ batch b .sheets
   pub answers : answers′ ≡ batch b .answers
-  pub decoded : result′ ≡ 0 → decode tables′ ≡ met (begun b) (countOf (b .requests)) .tables
+  pub decoded : result′ ≡ 0 → decode tables′ ≡ met (startOf b) (countOf (b .requests)) .tables

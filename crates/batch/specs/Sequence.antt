@@ -4,41 +4,41 @@ use Prim.Native.Nat.{ℕ, zero, suc, _*_}
 use mathlib.Core.Path.{_≡_}
 use mathlib.Core.List.{List}
 use lib.ListN.{length}
+use Rattle.lists.specs.Parts.{joined}
 use Rattle.tables.specs.declared.Tables.{Tables}
 use Rattle.machine.specs.State.{State, Outcome, sheetAt}
 use Rattle.machine.specs.Step.{step}
 use Rattle.served.specs.Outcomes.{stateOf}
-use Rattle.lists.specs.Parts.{joined}
 use Rattle.batch.specs.Numbers.{requestAt, answerNumbers}
 
 -- what the first request meets, and all that is sent: the requests' numbers, and a sheet buffer of 64 bytes for each
-pub record Begins : Type 0 where
+pub record Start : Type 0 where
   pub tables : Tables
   pub store : List ℕ
   pub sheets : List ℕ
   pub requests : List ℕ
 
 -- what the i-th request meets
-unfoldable pub met : Begins → ℕ → State
+unfoldable pub met : Start → ℕ → State
 met b zero = stateOf (b .tables) (b .store) (sheetAt 0 (b .sheets))
 met b (suc i) =
     let left = step (met b i) (requestAt i (b .requests)) .state in
     stateOf (left .tables) (left .store) (sheetAt (suc i) (b .sheets))
 
 -- its answer, and what it leaves
-unfoldable pub outcomeAt : Begins → ℕ → Outcome
+unfoldable pub outcomeAt : Start → ℕ → Outcome
 outcomeAt b i = step (met b i) (requestAt i (b .requests))
 
 -- the sheet buffers and the answers of the first n, one behind the other
-abbrev pub sheetsOf : Begins → ℕ → List ℕ
+abbrev pub sheetsOf : Start → ℕ → List ℕ
 sheetsOf b n = joined n (λ i. outcomeAt b i .state .sheet)
 
-abbrev pub answersOf : Begins → ℕ → List ℕ
+abbrev pub answersOf : Start → ℕ → List ℕ
 answersOf b n = joined n (λ i. answerNumbers (outcomeAt b i .answer))
 
 -- ---- contracts
-abbrev pub beginsWith : Tables → List ℕ → List ℕ → List ℕ → Begins
-beginsWith tables store sheets requests = record { tables = tables; store = store; sheets = sheets; requests = requests }
+abbrev pub startWith : Tables → List ℕ → List ℕ → List ℕ → Start
+startWith tables store sheets requests = record { tables = tables; store = store; sheets = sheets; requests = requests }
 
 -- the buffers for n requests have the lengths that they must have
 pub record Whole (n : ℕ) (store′ sheets′ requests′ answers′ : List ℕ) : Type 0 where
@@ -48,7 +48,7 @@ pub record Whole (n : ℕ) (store′ sheets′ requests′ answers′ : List ℕ
   pub answers : length answers′ ≡ 3 * n
 
 -- what n requests leave, field by field
-pub record AllServed (b : Begins) (n : ℕ) (t : Tables) (store′ sheets′ answers′ : List ℕ) : Type 0 where
+pub record AllServed (b : Start) (n : ℕ) (t : Tables) (store′ sheets′ answers′ : List ℕ) : Type 0 where
   pub tables : t ≡ met b n .tables
   pub store : store′ ≡ met b n .store
   pub sheets : sheets′ ≡ sheetsOf b n

@@ -1,5 +1,5 @@
 // A batch of requests over lent buffers. The image is decoded and tested for order once; the requests are then served one after the
-// other, and the image is written once. No routine that is public asks anything of its caller.
+// other, and the image is written once. `serve` asks nothing of its caller.
 ghost use Prim.Native.Nat.{_≤_};
 ghost use mathlib.Core.Path.{_≡_};
 ghost use mathlib.Core.Bool.{true};
@@ -9,7 +9,7 @@ ghost use Rattle.machine.specs.Step.{step};
 ghost use Rattle.served.specs.Outcomes.{stateOf};
 ghost use Rattle.serve.specs.Contract.{Lengths, HandsBack};
 ghost use Rattle.batch.specs.Numbers.{requestIn, countOf, answerNumbers};
-ghost use Rattle.batch.specs.Sequence.{beginsWith, Whole, AllServed};
+ghost use Rattle.batch.specs.Sequence.{startWith, Whole, AllServed};
 ghost use Rattle.batch.specs.Batch.{lengthsFit, buffersOf, Leaves};
 use machine::Answer;
 use machine::Request;
@@ -75,7 +75,7 @@ fn serve_all(
     keeps: bool,
 ) -> Tables
     requires { ⌜ Whole (countOf (now requests)) (now store) (now sheets) (now requests) (now answers) × (inOrder start ≡ true × (keeps ≡ true → noFarChild start ≡ true)) ⌝ }
-    ensures { λ t. ⌜ AllServed (beginsWith start (now (store .entry)) (now (sheets .entry)) (now (requests .entry))) (countOf (now (requests .entry))) t (now (store .exit)) (now (sheets .exit)) (now (answers .exit)) ⌝ }
+    ensures { λ t. ⌜ AllServed (startWith start (now (store .entry)) (now (sheets .entry)) (now (requests .entry))) (countOf (now (requests .entry))) t (now (store .exit)) (now (sheets .exit)) (now (answers .exit)) ⌝ }
 {
     let n = requests.len() / REQUEST;
     let mut t = start;

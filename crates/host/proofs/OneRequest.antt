@@ -8,15 +8,15 @@ use lib.Dec.{eqb}
 use lib.ListN.{length, getD}
 use lib.Seq.{take-all}
 use borrow.Author.Tests.{eqb-true, eqb-false, ne-eqb, not-false}
+use Rattle.lists.specs.Parts.{joined}
 use Rattle.lists.proofs.Tests.{Case, pass, fail, case}
 use Rattle.machine.specs.State.{Outcome, sheetAt}
 use Rattle.machine.specs.Refusal.{_when_else_}
 use Rattle.machine.proofs.RefusalLaws.{when-past}
-use Rattle.lists.specs.Parts.{joined}
 use Rattle.image.specs.Image.{encode}
 use Rattle.batch.specs.Numbers.{answerNumbers}
 use Rattle.batch.specs.Sequence.{met, outcomeAt}
-use Rattle.batch.specs.Batch.{Buffers, Left, lengthsFit, lengthsOk, tablesOk, batchRefusal, begun, allServed, untouched, batch, Leaves}
+use Rattle.batch.specs.Batch.{Buffers, Left, lengthsFit, lengthsOk, tablesOk, batchRefusal, startOf, allServed, untouched, batch, Leaves}
 use Rattle.batch.proofs.Refusals.{Fit, fit}
 use Rattle.host.specs.Host.{stepRefusal, stepOutcome, leftBy, stepImage, Steps}
 
@@ -68,7 +68,7 @@ module _ (b : Buffers) (nine : length (b .requests) ≡ 9) where
   served-result e = rw e
 
   -- the batch was served
-  first-outcome : length (b .sheets) ≡ 64 → outcomeAt (begun b) 0 ≡ stepOutcome b
+  first-outcome : length (b .sheets) ≡ 64 → outcomeAt (startOf b) 0 ≡ stepOutcome b
   unfolding outcomeAt met stepOutcome sheetAt
   first-outcome whole = rw (take-all 64 (b .sheets) (omega (arith, whole)))
 
@@ -123,14 +123,14 @@ module _ (b : Buffers) (nine : length (b .requests) ≡ 9) where
         let all = is-all z in
         let n : length (b .requests) / 9 ≡ 1 = omega (arith, nine) in
         let answers : answer ≡ answerNumbers (stepOutcome b .answer) =
-        l .answers ∙ (λ i. all i .answers) ∙ ap (λ (m : ℕ). joined m (λ j. answerNumbers (outcomeAt (begun b) j .answer))) n
+        l .answers ∙ (λ i. all i .answers) ∙ ap (λ (m : ℕ). joined m (λ j. answerNumbers (outcomeAt (startOf b) j .answer))) n
         ∙ ap (λ (x : Outcome). answerNumbers (x .answer)) o in
         record {
           result = ap (λ (a : List ℕ). getD a 0 0) answers ∙ λ i. left i .result;
-          tables = l .tables ∙ (λ i. all i .tables) ∙ ap (λ (m : ℕ). encode (met (begun b) m .tables)) n
+          tables = l .tables ∙ (λ i. all i .tables) ∙ ap (λ (m : ℕ). encode (met (startOf b) m .tables)) n
               ∙ ap (λ (x : Outcome). encode (x .state .tables)) o ∙ λ i. left i .tables;
-          store = l .store ∙ (λ i. all i .store) ∙ ap (λ (m : ℕ). met (begun b) m .store) n ∙ ap (λ (x : Outcome). x .state .store) o ∙ λ i. left i .store;
-          sheet = l .sheets ∙ (λ i. all i .sheets) ∙ ap (λ (m : ℕ). joined m (λ j. outcomeAt (begun b) j .state .sheet)) n
+          store = l .store ∙ (λ i. all i .store) ∙ ap (λ (m : ℕ). met (startOf b) m .store) n ∙ ap (λ (x : Outcome). x .state .store) o ∙ λ i. left i .store;
+          sheet = l .sheets ∙ (λ i. all i .sheets) ∙ ap (λ (m : ℕ). joined m (λ j. outcomeAt (startOf b) j .state .sheet)) n
               ∙ ap (λ (x : Outcome). x .state .sheet) o ∙ λ i. left i .sheets;
           answer = answers ∙ λ i. left i .answers;
         }

@@ -5,7 +5,7 @@ ghost use Rattle.batch.specs.Batch.{buffersOf, Leaves};
 ghost use Rattle.host.specs.Host.{emptyImage, EmptiesImage, stepImage, Steps, orderOf, checkImage};
 use tables::Name;
 
-// Bytes of the tables' image, of the store and of a sheet; numbers of a request and of an answer.
+// Bytes of the tables' image; numbers of a request.
 const TABLES: usize = 11328;
 
 const REQUEST: usize = 9;

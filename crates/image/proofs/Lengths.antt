@@ -3,12 +3,12 @@ use native.Mathlib.Omega.{arith}
 use mathlib.Core.Path.{_≡_, _∙_}
 use mathlib.Core.List.{[], _∷_}
 use lib.ListN.{length, getD, length-append}
+use Rattle.lists.specs.Parts.{joined}
+use Rattle.lists.proofs.PartLaws.{length-joined}
 use Rattle.tables.specs.declared.{Ticket.Ticket, Program.Program, Pad.Pad, Entry.Entry, Tables.Tables}
 use Rattle.tables.specs.Names.{free, noEntry, noProgram, noPad}
-use Rattle.lists.specs.Parts.{joined}
 use Rattle.image.specs.Numbers.{bytesOf}
 use Rattle.image.specs.Image.{ticketNumbers, ticketBytes, programBytes, padBytes, entryNumbers, entryBytes, encode}
-use Rattle.lists.proofs.PartLaws.{length-joined}
 use Rattle.image.proofs.NumberLaws.{length-bytes}
 
 pub ticket-long : (k : Ticket) → length (ticketBytes k) ≡ 24

@@ -6,10 +6,10 @@ use mathlib.Core.Path.{_≡_, refl, sym, ap, _∙_}
 use mathlib.Core.List.{List, [], _∷_}
 use lib.ListN.{length, getD, set, take, drop, length-drop}
 use lib.Seq.{getD-drop}
-use Rattle.lists.proofs.Front.{front, front-more}
 use Rattle.lists.specs.Parts.{tabulate}
-use Rattle.image.specs.Numbers.{bytesOf, numberAt}
+use Rattle.lists.proofs.Front.{front, front-more}
 use Rattle.lists.proofs.PartLaws.{Begins}
+use Rattle.image.specs.Numbers.{bytesOf, numberAt}
 
 twice : (i : ℕ) → 2 * suc i ≡ suc (suc (2 * i))
 twice i = omega arith

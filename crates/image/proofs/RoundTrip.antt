@@ -9,18 +9,18 @@ use lib.Dec.{leb, eqb}
 use lib.ListN.{length, getD, take, drop}
 use lib.Seq.{drop-drop, take-add, take-all}
 use borrow.Author.Tests.{leb-true, eqb-true, eq-eqb}
+use Rattle.lists.specs.Parts.{tabulate, joined}
 use Rattle.lists.proofs.Tests.{and-l, and-r, and-intro}
 use Rattle.lists.proofs.Below.{below-at}
+use Rattle.lists.proofs.PartLaws.{every-intro, every-at, Begins, begins-all, begins-front, begins-behind, part-begins, parts-back, parts-cut}
 use Rattle.rights.specs.Rules.{rightsOf}
 use Rattle.tables.specs.declared.{Name.Name, Kind.Kind, Ticket.Ticket, Program.Program, Pad.Pad, Entry.Entry, Tables.Tables}
 use Rattle.tables.specs.declared.Kind.the-variants.{Free, Taken, Received, Child, Recall}
 use Rattle.tables.specs.Names.{nameOf, free, noEntry, noProgram, noPad}
 use Rattle.tables.specs.Lookup.{padAt, Sized}
-use Rattle.lists.specs.Parts.{tabulate, joined}
 use Rattle.image.specs.Numbers.{bytesOf, numberAt}
 use Rattle.image.specs.Image.{kindNumber, kindOf, ticketNumbers, ticketBytes, ticketIn, programBytes, programIn, padBytes, padIn}
 use Rattle.image.specs.Image.{entryNumbers, entryBytes, entryIn, encode, decode, ticketStart, entryStart, kindsOk, livesOk, isImage}
-use Rattle.lists.proofs.PartLaws.{every-intro, every-at, Begins, begins-all, begins-front, begins-behind, part-begins, parts-back, parts-cut}
 use Rattle.image.proofs.NumberLaws.{number-back, number-begins, number-drop, Bytes, bytes-drop, numbers-cut}
 use Rattle.image.proofs.Lengths.{ticket-long, tickets-long, program-long, pad-long, pads-long, entry-long, image-long}
 

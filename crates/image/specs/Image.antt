@@ -6,11 +6,11 @@ use mathlib.Core.List.{List, [], _∷_, _++_}
 use lib.Dec.{leb, eqb}
 use lib.ListN.{length, getD, drop}
 use Rattle.lists.specs.Lists.{all}
+use Rattle.lists.specs.Parts.{tabulate, joined}
 use Rattle.rights.specs.Rules.{rightsOf}
 use Rattle.tables.specs.declared.{Name.Name, Kind.Kind, Ticket.Ticket, Program.Program, Pad.Pad, Entry.Entry, Tables.Tables}
 use Rattle.tables.specs.declared.Kind.the-variants.{Free, Taken, Received, Child, Recall}
 use Rattle.tables.specs.Names.{nameOf, free, noEntry, noProgram, noPad}
-use Rattle.lists.specs.Parts.{tabulate, joined}
 use Rattle.image.specs.Numbers.{bytesOf, numberAt}
 
 -- ---- a ticket: kind, number, own, other (pad, program, number), first, count, rights, dock (pad, program, number); 24 bytes

@@ -12,11 +12,11 @@ use lib.Seq.{take-add, take-at, drop-at, drop-drop, drop-length, ext-getD}
 use borrow.Author.Tests.{eqb-true, eqb-false}
 use borrow.Rule.Slice.PartMut.{putMid}
 use Rattle.lists.specs.Lists.{all}
+use Rattle.lists.specs.Parts.{tabulate, joined}
 use Rattle.lists.proofs.Tests.{Case, pass, fail, case}
 use Rattle.lists.proofs.Everywhere.{all-intro, all-elim}
 use Rattle.lists.proofs.Laid.{Laid}
 use Rattle.lists.proofs.Loops.{all-broken, so-far}
-use Rattle.lists.specs.Parts.{tabulate, joined}
 
 -- ---- elements
 module _ {A : Type 0} where

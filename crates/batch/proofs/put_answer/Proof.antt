@@ -1,6 +1,6 @@
-use Rattle.batch.proofs.Numbers.{three-stored}
-use Rattle.batch.specs.Numbers.{answerNumbers}
 use borrow.Author.Needs.{needs}
+use Rattle.batch.specs.Numbers.{answerNumbers}
+use Rattle.batch.proofs.Numbers.{three-stored}
 use Rattle.batch.proofs.put_answer.Statement.{statement}
 use Rattle.batch.proofs.put_answer.Tie as tie
 

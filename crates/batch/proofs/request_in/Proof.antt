@@ -1,6 +1,6 @@
-use Rattle.batch.specs.Numbers.{requestIn}
 use mathlib.Core.Path.{refl}
 use borrow.Author.Needs.{needs}
+use Rattle.batch.specs.Numbers.{requestIn}
 use Rattle.batch.proofs.request_in.Statement.{statement}
 use Rattle.batch.proofs.request_in.Tie as tie
 

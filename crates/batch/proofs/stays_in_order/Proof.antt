@@ -1,6 +1,6 @@
-use Rattle.lists.proofs.Tests.{no-true}
 use mathlib.Core.Path.{sym, _∙_}
 use borrow.Author.Needs.{needs}
+use Rattle.lists.proofs.Tests.{no-true}
 use Rattle.batch.proofs.stays_in_order.Statement.{statement}
 use Rattle.batch.proofs.stays_in_order.Tie as tie
 

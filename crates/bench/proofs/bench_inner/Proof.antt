@@ -1,5 +1,5 @@
-use Rattle.batch.proofs.Refusals.{passed}
 use borrow.Author.Needs.{needs}
+use Rattle.batch.proofs.Refusals.{passed}
 use Rattle.bench.proofs.bench_inner.Statement.{statement}
 use Rattle.bench.proofs.bench_inner.Tie as tie
 
@@ -23,8 +23,10 @@ returns-4 c = search needs
 
 serve-each-requires : tie.Need-serve-each-requires
 serve-each-requires c κs =
-    let c5 = c .before .before .before .before .before in
-    (record { store = c5 .before .if2 .left; sheet = c5 .if3 .left }, passed (c .before .before .before .in-order .ensures) (c .before .before .if4 .left))
+    let c3 = c .before .before .before in
+    let c5 = c3 .before .before in
+    let c6 = c5 .before in
+    (record { store = c6 .if2 .left; sheet = c5 .if3 .left }, passed (c3 .in-order .ensures) (c .before .before .if4 .left))
 
 same-length : tie.Need-same-length
 same-length c = search needs

@@ -1,7 +1,8 @@
+-- The lent buffers keep their lengths.
 use Prim.Native.Nat.{_-_}
 use mathlib.Core.Path.{_≡_, sym, _∙_}
-use borrow.Author.Needs.{needs}
 use lib.ListN.{length}
+use borrow.Author.Needs.{needs}
 use Rattle.bench.proofs.serve_each.Statement.{statement}
 use Rattle.bench.proofs.serve_each.Tie as tie
 
@@ -13,8 +14,8 @@ abbrev μ-loop : tie.MeasureT-loop
 
 loop-holds : tie.Need-loop-holds Inv-loop μ-loop
 loop-holds c =
-    let s = c .before .before .before in
-    (s .pre .0 .store, s .pre .0 .sheet)
+    let c3 = c .before .before .before in
+    (c3 .pre .0 .store, c3 .pre .0 .sheet)
 
 mul-from : tie.Need-mul-from Inv-loop μ-loop
 mul-from c = search needs
@@ -39,8 +40,9 @@ add-i c = search needs
 
 request-requires : tie.Need-request-requires Inv-loop μ-loop
 request-requires c κs =
-    let h = c .before .before .before .before .before in
-    (record { store = h .loop .inv .0; sheet = h .loop .inv .1 }, h .before .before .before .before .pre .1)
+    let c5 = c .before .before .before .before .before in
+    let c9 = c5 .before .before .before .before in
+    (record { store = c5 .loop .inv .0; sheet = c5 .loop .inv .1 }, c9 .pre .1)
 
 loop-less : tie.Need-loop-less Inv-loop μ-loop
 loop-less c = search needs
@@ -48,18 +50,18 @@ loop-less c = search needs
 loop-again : tie.Need-loop-again Inv-loop μ-loop
 loop-again c =
     let c5 = c .before .before .before .before .before in
-    let h = c5 .before .before .before .before .before .before in
-    (c5 .request .kept .1 .0 ∙ h .loop .inv .0, c5 .request .kept .1 .1 .0 ∙ h .loop .inv .1)
+    let c11 = c5 .before .before .before .before .before .before in
+    (c5 .request .kept .1 .0 ∙ c11 .loop .inv .0, c5 .request .kept .1 .1 .0 ∙ c11 .loop .inv .1)
 
 same-length : tie.Need-same-length Inv-loop μ-loop
 same-length c =
-    let h = c .before in
-    h .loop .inv .0 ∙ sym (h .before .before .before .before .pre .0 .store)
+    let c5 = c .before .before .before .before .before in
+    c .before .loop .inv .0 ∙ sym (c5 .pre .0 .store)
 
 same-length-2 : tie.Need-same-length-2 Inv-loop μ-loop
 same-length-2 c =
-    let h = c .before in
-    h .loop .inv .1 ∙ sym (h .before .before .before .before .pre .0 .sheet)
+    let c5 = c .before .before .before .before .before in
+    c .before .loop .inv .1 ∙ sym (c5 .pre .0 .sheet)
 
 returns : tie.Need-returns Inv-loop μ-loop
 returns c = search needs

@@ -1,8 +1,9 @@
-use lib.Dec.{eqb}
-use Rattle.image.specs.Image.{entryIn}
-use Rattle.rights.specs.Rules.{rightsOf}
+-- Field by field.
 use mathlib.Core.Path.{ap, _∙_}
+use lib.Dec.{eqb}
 use borrow.Author.Needs.{needs}
+use Rattle.rights.specs.Rules.{rightsOf}
+use Rattle.image.specs.Image.{entryIn}
 use Rattle.decode.proofs.entry_in.Statement.{statement}
 use Rattle.decode.proofs.entry_in.Tie as tie
 
@@ -31,11 +32,13 @@ returns : tie.Need-returns
 unfolding entryIn
 returns c =
     let c3 = c .before .before .before in
-    let c6 = c3 .before .before .before in
+    let c4 = c3 .before in
+    let c5 = c4 .before in
+    let c6 = c5 .before in
     λ i. record {
       live = eqb (c6 .number-at .ensures i) 1;
-      name = c3 .before .before .name-at .ensures i;
-      parent = c3 .before .name-at2 .ensures i;
+      name = c5 .name-at .ensures i;
+      parent = c4 .name-at2 .ensures i;
       first = c .before .number-at3 .ensures i;
       count = c .number-at4 .ensures i;
       rights = (c .before .before .make .ensures ∙ ap rightsOf (c3 .number-at2 .ensures)) i;

@@ -1,14 +1,15 @@
+-- After i turns the kinds in the first i places are among the five.
+use Prim.Native.Nat.{ℕ, _-_, _≤_, _<_}
+use native.Mathlib.Omega.{arith}
+use mathlib.Core.Path.{_≡_, sym}
 use mathlib.Core.Bool.{true}
 use lib.Dec.{leb}
+use borrow.Author.Needs.{needs}
 use borrow.Author.Tests.{le-leb, lt-leb}
 use Rattle.lists.proofs.Loops.{so-far}
 use Rattle.lists.proofs.PartLaws.{every-intro, every-broken}
 use Rattle.image.specs.Numbers.{numberAt}
 use Rattle.image.specs.Image.{ticketStart, kindsOk}
-use Prim.Native.Nat.{ℕ, _-_, _≤_, _<_}
-use mathlib.Core.Path.{_≡_, sym}
-use native.Mathlib.Omega.{arith}
-use borrow.Author.Needs.{needs}
 use Rattle.decode.proofs.kinds_ok.Statement.{statement}
 use Rattle.decode.proofs.kinds_ok.Tie as tie
 
@@ -40,7 +41,8 @@ returns : tie.Need-returns Inv-loop μ-loop
 unfolding kindsOk
 returns c =
     let c3 = c .before .before .before in
-    let l = c3 .before .before .args .bytes .now in
+    let c5 = c3 .before .before in
+    let l = c5 .args .bytes .now in
     every-broken 256 (λ place. leb (numberAt (ticketStart place) l) 4) (c3 .loop .i) (omega arith)
     (lt-leb (numberAt (ticketStart (c3 .loop .i)) l) 4 (omega (arith, c .before .number-at .ensures, c .if1 .taken)))
 
@@ -50,7 +52,8 @@ loop-less c = search needs
 loop-again : tie.Need-loop-again Inv-loop μ-loop
 loop-again c =
     let c3 = c .before .before .before in
-    let l = c3 .before .before .args .bytes .now in (
+    let c5 = c3 .before .before in
+    let l = c5 .args .bytes .now in (
       omega arith,
       so-far (c3 .loop .i) (c3 .loop .inv .1) (le-leb (numberAt (ticketStart (c3 .loop .i)) l) 4 (omega (arith, c .before .number-at .ensures, c .if1 .left))),
     )
@@ -58,9 +61,9 @@ loop-again c =
 returns-2 : tie.Need-returns-2 Inv-loop μ-loop
 unfolding kindsOk
 returns-2 c =
-    let c1 = c .before in
-    let l = c1 .before .before .args .bytes .now in
-    sym (every-intro 256 (λ place. leb (numberAt (ticketStart place) l) 4) (λ j h. c1 .loop .inv .1 j (omega arith)))
+    let c3 = c .before .before .before in
+    let l = c3 .args .bytes .now in
+    sym (every-intro 256 (λ place. leb (numberAt (ticketStart place) l) 4) (λ j h. c .before .loop .inv .1 j (omega arith)))
 
 pub kinds-ok-spec : {M : Type 1} → statement M
 kinds-ok-spec =

@@ -1,3 +1,4 @@
+-- Field by field.
 use borrow.Author.Needs.{needs}
 use Rattle.decode.proofs.name_at.Statement.{statement}
 use Rattle.decode.proofs.name_at.Tie as tie

@@ -1,13 +1,14 @@
-use Rattle.tables.specs.Names.{noProgram}
+-- After i turns the first i places hold the programs that the bytes say.
+use Prim.Native.Nat.{_-_, _*_, _≤_}
+use native.Mathlib.Omega.{arith}
+use mathlib.Core.Path.{ap, _∙_}
+use lib.ListN.{drop}
+use borrow.Author.Needs.{needs}
 use Rattle.lists.proofs.Front.{rest-part}
 use Rattle.lists.proofs.Laid.{Laid, laid-none, one-more}
-use lib.ListN.{drop}
 use Rattle.lists.proofs.PartLaws.{tabulated}
+use Rattle.tables.specs.Names.{noProgram}
 use Rattle.image.specs.Image.{programIn, padIn}
-use Prim.Native.Nat.{_-_, _*_, _≤_}
-use mathlib.Core.Path.{ap, _∙_}
-use native.Mathlib.Omega.{arith}
-use borrow.Author.Needs.{needs}
 use Rattle.decode.proofs.pad_in.Statement.{statement}
 use Rattle.decode.proofs.pad_in.Tie as tie
 
@@ -53,7 +54,8 @@ loop-less c = search needs
 loop-again : tie.Need-loop-again Inv-loop μ-loop
 loop-again c =
     let c3 = c .before .before .before in
-    let l = c3 .before .before .before .args .bytes .now in (
+    let c6 = c3 .before .before .before in
+    let l = c6 .args .bytes .now in (
       omega arith,
       one-more noProgram 8 (λ j. programIn (drop (194 * j) l)) (c3 .loop .i) _ _ (c3 .loop .inv .1) (omega arith)
           (c .program-in .ensures ∙ ap programIn (rest-part l (194 * c3 .loop .i))),
@@ -62,9 +64,9 @@ loop-again c =
 returns : tie.Need-returns Inv-loop μ-loop
 unfolding padIn
 returns c =
-    let c1 = c .before in
-    let l = c1 .before .before .before .args .bytes .now in
-    λ i. record { programs = tabulated noProgram 8 (c1 .loop .i) (λ j. programIn (drop (194 * j) l)) (c1 .loop .programs) (omega arith) (c1 .loop .inv .1) i }
+    let c4 = c .before .before .before .before in
+    let l = c4 .args .bytes .now in
+    λ i. record { programs = tabulated noProgram 8 (c .before .loop .i) (λ j. programIn (drop (194 * j) l)) (c .before .loop .programs) (omega arith) (c .before .loop .inv .1) i }
 
 pub pad-in-spec : {M : Type 1} → statement M
 pad-in-spec =

@@ -1,13 +1,14 @@
-use Rattle.tables.specs.Names.{free}
+-- After i turns the first i places hold the tickets that the bytes say.
+use Prim.Native.Nat.{_-_, _*_, _≤_}
+use native.Mathlib.Omega.{arith}
+use mathlib.Core.Path.{ap, _∙_}
+use lib.ListN.{drop}
+use borrow.Author.Needs.{needs}
 use Rattle.lists.proofs.Front.{rest-part}
 use Rattle.lists.proofs.Laid.{Laid, laid-none, one-more}
-use lib.ListN.{drop}
 use Rattle.lists.proofs.PartLaws.{tabulated}
+use Rattle.tables.specs.Names.{free}
 use Rattle.image.specs.Image.{ticketIn, programIn}
-use Prim.Native.Nat.{_-_, _*_, _≤_}
-use mathlib.Core.Path.{ap, _∙_}
-use native.Mathlib.Omega.{arith}
-use borrow.Author.Needs.{needs}
 use Rattle.decode.proofs.program_in.Statement.{statement}
 use Rattle.decode.proofs.program_in.Tie as tie
 
@@ -53,7 +54,8 @@ loop-less c = search needs
 loop-again : tie.Need-loop-again Inv-loop μ-loop
 loop-again c =
     let c3 = c .before .before .before in
-    let l = c3 .before .before .before .args .bytes .now in (
+    let c6 = c3 .before .before .before in
+    let l = c6 .args .bytes .now in (
       omega arith,
       one-more free 8 (λ j. ticketIn (drop (24 * j) l)) (c3 .loop .i) _ _ (c3 .loop .inv .1) (omega arith)
           (c .ticket-in .ensures ∙ ap ticketIn (rest-part l (24 * c3 .loop .i))),
@@ -65,10 +67,10 @@ number-at-requires c κs = search needs
 returns : tie.Need-returns Inv-loop μ-loop
 unfolding programIn
 returns c =
-    let c2 = c .before .before in
-    let l = c2 .before .before .before .args .bytes .now in
+    let c5 = c .before .before .before .before .before in
+    let l = c5 .args .bytes .now in
     λ i. record {
-      tickets = tabulated free 8 (c2 .loop .i) (λ j. ticketIn (drop (24 * j) l)) (c2 .loop .tickets) (omega arith) (c2 .loop .inv .1) i;
+      tickets = tabulated free 8 (c .before .before .loop .i) (λ j. ticketIn (drop (24 * j) l)) (c .before .before .loop .tickets) (omega arith) (c .before .before .loop .inv .1) i;
       last = c .number-at .ensures i;
     }
 

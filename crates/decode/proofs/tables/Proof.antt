@@ -1,5 +1,6 @@
-use Rattle.image.specs.Image.{decode}
+-- Field by field.
 use borrow.Author.Needs.{needs}
+use Rattle.image.specs.Image.{decode}
 use Rattle.decode.proofs.tables.Statement.{statement}
 use Rattle.decode.proofs.tables.Tie as tie
 

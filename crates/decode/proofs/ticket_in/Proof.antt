@@ -1,7 +1,8 @@
-use Rattle.rights.specs.Rules.{rightsOf}
-use Rattle.image.specs.Image.{kindOf, ticketIn}
+-- Field by field.
 use mathlib.Core.Path.{ap, _∙_}
 use borrow.Author.Needs.{needs}
+use Rattle.rights.specs.Rules.{rightsOf}
+use Rattle.image.specs.Image.{kindOf, ticketIn}
 use Rattle.decode.proofs.ticket_in.Statement.{statement}
 use Rattle.decode.proofs.ticket_in.Tie as tie
 
@@ -38,17 +39,22 @@ number-at-requires-6 c κs = search needs
 returns : tie.Need-returns
 unfolding ticketIn
 returns c =
-    let c4 = c .before .before .before .before in
-    let c8 = c4 .before .before .before .before in
+    let c3 = c .before .before .before in
+    let c4 = c3 .before in
+    let c5 = c4 .before in
+    let c6 = c5 .before in
+    let c7 = c6 .before in
+    let c8 = c7 .before in
+    let c9 = c8 .before in
     λ i. record {
-      kind = (c8 .kind-of .ensures ∙ ap kindOf (c8 .before .number-at .ensures)) i;
-      number = c .before .before .before .number-at3 .ensures i;
+      kind = (c8 .kind-of .ensures ∙ ap kindOf (c9 .number-at .ensures)) i;
+      number = c3 .number-at3 .ensures i;
       own = c .before .before .number-at4 .ensures i;
-      other = c4 .before .before .before .name-at .ensures i;
+      other = c7 .name-at .ensures i;
       first = c .before .number-at5 .ensures i;
       count = c .number-at6 .ensures i;
-      rights = (c4 .make .ensures ∙ ap rightsOf (c4 .before .number-at2 .ensures)) i;
-      dock = c4 .before .before .name-at2 .ensures i;
+      rights = (c4 .make .ensures ∙ ap rightsOf (c5 .number-at2 .ensures)) i;
+      dock = c6 .name-at2 .ensures i;
     }
 
 pub ticket-in-spec : {M : Type 1} → statement M

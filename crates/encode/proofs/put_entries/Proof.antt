@@ -1,12 +1,13 @@
-use Rattle.image.proofs.Lengths.{entry-long}
-use Rattle.lists.proofs.PartLaws.{Written, written-none, written-more, written-all}
-use Rattle.image.specs.Image.{entryBytes}
-use Rattle.tables.specs.Names.{noEntry}
+-- After i turns the first i entries are written, the rest is as it was.
 use Prim.Native.Nat.{_+_, _-_, _*_, _≤_}
-use mathlib.Core.Path.{refl}
 use native.Mathlib.Omega.{arith}
-use borrow.Author.Needs.{needs}
+use mathlib.Core.Path.{refl}
 use lib.ListN.{getD}
+use borrow.Author.Needs.{needs}
+use Rattle.lists.proofs.PartLaws.{Written, written-none, written-more, written-all}
+use Rattle.tables.specs.Names.{noEntry}
+use Rattle.image.specs.Image.{entryBytes}
+use Rattle.image.proofs.Lengths.{entry-long}
 use Rattle.encode.proofs.put_entries.Statement.{statement}
 use Rattle.encode.proofs.put_entries.Tie as tie
 
@@ -51,13 +52,14 @@ loop-less c = search needs
 
 loop-again : tie.Need-loop-again Inv-loop μ-loop
 loop-again c =
-    let c2 = c .before .before in
-    let c6 = c2 .before .before .before .before in
-    let a = c6 .before .before .args in
+    let c5 = c .before .before .before .before .before in
+    let c6 = c5 .before in
+    let c8 = c6 .before .before in
+    let a = c8 .args in
     let i = c6 .loop .i in (
       omega arith,
       written-more 20 (λ j. entryBytes (getD (a .t2) j noEntry)) (a .bytes .now) i _ (c6 .loop .inv .1) _ (20 * i + 20 - 20 * i) _ refl (omega arith)
-          (entry-long _) (omega (arith, c6 .before .before .pre, c2 .before .before .before .loop-test .taken)) (c2 .put-entry .ensures),
+          (entry-long _) (omega (arith, c8 .pre, c5 .loop-test .taken)) (c .before .before .put-entry .ensures),
     )
 
 same-length : tie.Need-same-length Inv-loop μ-loop
@@ -65,9 +67,9 @@ same-length c = c .before .loop .inv .1 .size
 
 returns : tie.Need-returns Inv-loop μ-loop
 returns c =
-    let h = c .before in
-    let a = h .before .before .args in
-    written-all 20 (λ j. entryBytes (getD (a .t2) j noEntry)) (a .bytes .now) (h .loop .i) _ (h .loop .inv .1) 256 (omega arith) (h .before .before .pre)
+    let c3 = c .before .before .before in
+    let a = c3 .args in
+    written-all 20 (λ j. entryBytes (getD (a .t2) j noEntry)) (a .bytes .now) (c .before .loop .i) _ (c .before .loop .inv .1) 256 (omega arith) (c3 .pre)
 
 pub put-entries-spec : {M : Type 1} → statement M
 put-entries-spec =

@@ -1,8 +1,9 @@
+-- The numbers are those of the definition.
+use mathlib.Core.Path.{_∙_}
 use mathlib.Core.List.{[], _∷_}
+use borrow.Author.Needs.{needs}
 use Rattle.image.specs.Numbers.{bytesOf}
 use Rattle.image.specs.Image.{entryNumbers, entryBytes}
-use mathlib.Core.Path.{_∙_}
-use borrow.Author.Needs.{needs}
 use Rattle.encode.proofs.put_entry.Statement.{statement}
 use Rattle.encode.proofs.put_entry.Tie as tie
 

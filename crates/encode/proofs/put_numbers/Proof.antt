@@ -1,12 +1,12 @@
-use Rattle.lists.proofs.Front.{front, front-none, front-end}
-use lib.ListN.{length-set}
-use Rattle.image.proofs.NumberLaws.{length-bytes, put-number}
-use Rattle.image.specs.Numbers.{bytesOf}
+-- After i turns the bytes of the first i numbers are written, the rest is as it was.
 use Prim.Native.Nat.{_-_, _*_, _≤_}
-use mathlib.Core.Path.{_≡_, refl, _∙_}
 use native.Mathlib.Omega.{arith}
+use mathlib.Core.Path.{_≡_, refl, _∙_}
+use lib.ListN.{length-set, length}
 use borrow.Author.Needs.{needs}
-use lib.ListN.{length}
+use Rattle.lists.proofs.Front.{front, front-none, front-end}
+use Rattle.image.specs.Numbers.{bytesOf}
+use Rattle.image.proofs.NumberLaws.{length-bytes, put-number}
 use Rattle.encode.proofs.put_numbers.Statement.{statement}
 use Rattle.encode.proofs.put_numbers.Tie as tie
 
@@ -42,8 +42,8 @@ add-bytes c = search needs
 
 slice-write-bytes-2 : tie.Need-slice-write-bytes-2 Inv-loop μ-loop
 slice-write-bytes-2 c =
-    let h = c .before .before in
-    simp length-set (omega (arith, h .loop .inv .1 .0, h .before .pre))
+    let c3 = c .before .before .before in
+    simp length-set (omega (arith, c .before .before .loop .inv .1 .0, c3 .pre))
 
 add-i : tie.Need-add-i Inv-loop μ-loop
 add-i c = search needs
@@ -53,12 +53,12 @@ loop-less c = search needs
 
 loop-again : tie.Need-loop-again Inv-loop μ-loop
 loop-again c =
-    let h = c .before .before in
-    let a = h .before .args in (
+    let c3 = c .before .before .before in
+    let a = c3 .args in (
       omega arith,
       (
-        simp length-set (h .loop .inv .1 .0),
-        put-number (a .numbers .now) (a .bytes .now) _ (h .loop .i) (omega arith) (h .loop .inv .1 .1),
+        simp length-set (c .before .before .loop .inv .1 .0),
+        put-number (a .numbers .now) (a .bytes .now) _ (c .before .before .loop .i) (omega arith) (c .before .before .loop .inv .1 .1),
       ),
     )
 
@@ -67,10 +67,9 @@ same-length c = c .before .loop .inv .1 .0
 
 returns : tie.Need-returns Inv-loop μ-loop
 returns c =
-    let h = c .before in
-    let a = h .before .args in
-    h .loop .inv .1 .1
-    ∙ front-end (2 * h .loop .i) (bytesOf (a .numbers .now)) (a .bytes .now) (omega (arith, length-bytes (a .numbers .now)))
+    let a = c .before .before .args in
+    c .before .loop .inv .1 .1
+    ∙ front-end (2 * c .before .loop .i) (bytesOf (a .numbers .now)) (a .bytes .now) (omega (arith, length-bytes (a .numbers .now)))
     (omega (arith, length-bytes (a .numbers .now)))
 
 pub put-numbers-spec : {M : Type 1} → statement M

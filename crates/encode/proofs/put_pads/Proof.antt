@@ -1,12 +1,13 @@
-use Rattle.image.proofs.Lengths.{pad-long}
-use Rattle.lists.proofs.PartLaws.{Written, written-none, written-more, written-all}
-use Rattle.image.specs.Image.{padBytes}
-use Rattle.tables.specs.Names.{noPad}
+-- After i turns the first i pads are written, the rest is as it was.
 use Prim.Native.Nat.{_+_, _-_, _*_, _≤_}
-use mathlib.Core.Path.{refl}
 use native.Mathlib.Omega.{arith}
-use borrow.Author.Needs.{needs}
+use mathlib.Core.Path.{refl}
 use lib.ListN.{getD}
+use borrow.Author.Needs.{needs}
+use Rattle.lists.proofs.PartLaws.{Written, written-none, written-more, written-all}
+use Rattle.tables.specs.Names.{noPad}
+use Rattle.image.specs.Image.{padBytes}
+use Rattle.image.proofs.Lengths.{pad-long}
 use Rattle.encode.proofs.put_pads.Statement.{statement}
 use Rattle.encode.proofs.put_pads.Tie as tie
 
@@ -51,13 +52,14 @@ loop-less c = search needs
 
 loop-again : tie.Need-loop-again Inv-loop μ-loop
 loop-again c =
-    let c2 = c .before .before in
-    let c6 = c2 .before .before .before .before in
-    let a = c6 .before .before .args in
+    let c5 = c .before .before .before .before .before in
+    let c6 = c5 .before in
+    let c8 = c6 .before .before in
+    let a = c8 .args in
     let i = c6 .loop .i in (
       omega arith,
       written-more 1552 (λ j. padBytes (getD (a .t2) j noPad)) (a .bytes .now) i _ (c6 .loop .inv .1) _ (1552 * i + 1552 - 1552 * i) _ refl (omega arith)
-          (pad-long _) (omega (arith, c6 .before .before .pre, c2 .before .before .before .loop-test .taken)) (c2 .put-pad .ensures),
+          (pad-long _) (omega (arith, c8 .pre, c5 .loop-test .taken)) (c .before .before .put-pad .ensures),
     )
 
 same-length : tie.Need-same-length Inv-loop μ-loop
@@ -65,9 +67,9 @@ same-length c = c .before .loop .inv .1 .size
 
 returns : tie.Need-returns Inv-loop μ-loop
 returns c =
-    let h = c .before in
-    let a = h .before .before .args in
-    written-all 1552 (λ j. padBytes (getD (a .t2) j noPad)) (a .bytes .now) (h .loop .i) _ (h .loop .inv .1) 4 (omega arith) (h .before .before .pre)
+    let c3 = c .before .before .before in
+    let a = c3 .args in
+    written-all 1552 (λ j. padBytes (getD (a .t2) j noPad)) (a .bytes .now) (c .before .loop .i) _ (c .before .loop .inv .1) 4 (omega arith) (c3 .pre)
 
 pub put-pads-spec : {M : Type 1} → statement M
 put-pads-spec =

@@ -1,15 +1,15 @@
-use Rattle.image.proofs.Lengths.{ticket-long}
-use Rattle.lists.proofs.PartLaws.{Written, written-none, written-more, written-front, tail-put}
-use Rattle.image.specs.Image.{ticketBytes, programBytes}
-use Rattle.lists.specs.Parts.{joined}
-use Rattle.tables.specs.Names.{free}
-use lib.ListN.{take, length-take, length-drop}
-use mathlib.Core.List.{List, _++_}
+-- After i turns the first i tickets are written, the rest is as it was; the last number goes behind them.
 use Prim.Native.Nat.{ℕ, _+_, _-_, _*_, _≤_}
-use mathlib.Core.Path.{_≡_, refl, sym, ap, _∙_}
 use native.Mathlib.Omega.{arith}
+use mathlib.Core.Path.{_≡_, refl, sym, ap, _∙_}
+use mathlib.Core.List.{List, _++_}
+use lib.ListN.{take, length-take, length-drop, length, getD}
 use borrow.Author.Needs.{needs}
-use lib.ListN.{length, getD}
+use Rattle.lists.specs.Parts.{joined}
+use Rattle.lists.proofs.PartLaws.{Written, written-none, written-more, written-front, tail-put}
+use Rattle.tables.specs.Names.{free}
+use Rattle.image.specs.Image.{ticketBytes, programBytes}
+use Rattle.image.proofs.Lengths.{ticket-long}
 use Rattle.encode.proofs.put_program.Statement.{statement}
 use Rattle.encode.proofs.put_program.Tie as tie
 
@@ -54,13 +54,14 @@ loop-less c = search needs
 
 loop-again : tie.Need-loop-again Inv-loop μ-loop
 loop-again c =
-    let c2 = c .before .before in
-    let c6 = c2 .before .before .before .before in
-    let a = c6 .before .before .args in
+    let c5 = c .before .before .before .before .before in
+    let c6 = c5 .before in
+    let c8 = c6 .before .before in
+    let a = c8 .args in
     let i = c6 .loop .i in (
       omega arith,
       written-more 24 (λ j. ticketBytes (getD (a .t2 .tickets) j free)) (a .bytes .now) i _ (c6 .loop .inv .1) _ (24 * i + 24 - 24 * i) _ refl (omega arith)
-          (ticket-long _) (omega (arith, c6 .before .before .pre, c2 .before .before .before .loop-test .taken)) (c2 .put-ticket .ensures),
+          (ticket-long _) (omega (arith, c8 .pre, c5 .loop-test .taken)) (c .before .before .put-ticket .ensures),
     )
 
 sub-put-numbers : tie.Need-sub-put-numbers Inv-loop μ-loop
@@ -77,26 +78,28 @@ slice-aggregate-put-numbers c = search needs
 
 put-numbers-requires : tie.Need-put-numbers-requires Inv-loop μ-loop
 put-numbers-requires c κs =
-    let h = c .before .before .before in
-    simp (length-take, length-drop) (omega (arith, h .loop .inv .1 .size, h .before .before .pre))
+    let c3 = c .before .before .before in
+    let c5 = c3 .before .before in
+    simp (length-take, length-drop) (omega (arith, c3 .loop .inv .1 .size, c5 .pre))
 
 same-length : tie.Need-same-length Inv-loop μ-loop
 same-length c =
-    let h = c .before .before .before .before .before .before in
-    omega (arith, h .loop .inv .1 .size)
+    let c6 = c .before .before .before .before .before .before in
+    omega (arith, c6 .loop .inv .1 .size)
 
 returns : tie.Need-returns Inv-loop μ-loop
 unfolding programBytes
 returns c =
-    let c2 = c .before .before in
-    let h = c2 .before .before .before .before in
-    let a = h .before .before .args in
-    let at : 24 * h .loop .i ≡ 192 = omega (arith, h .loop .inv .0, c2 .before .before .before .loop-test .left) in
-    let i : h .loop .i ≡ 8 = omega arith in
-    tail-put (h .loop .bytes) (joined 8 (λ j. ticketBytes (getD (a .t2 .tickets) j free))) _ 192 (length (h .loop .bytes) - 192)
-    (ap (λ (m : ℕ). take m (h .loop .bytes)) (sym at) ∙ written-front 24 (λ j. ticketBytes (getD (a .t2 .tickets) j free)) (a .bytes .now) (h .loop .i) _ (h .loop .inv .1)
-    ∙ ap (λ (m : ℕ). joined m (λ j. ticketBytes (getD (a .t2 .tickets) j free))) i) (omega (arith, h .loop .inv .1 .size, h .before .before .pre))
-    ∙ ap (λ (l : List ℕ). joined 8 (λ j. ticketBytes (getD (a .t2 .tickets) j free)) ++ l) (c2 .put-numbers .ensures)
+    let c5 = c .before .before .before .before .before in
+    let c6 = c5 .before in
+    let c8 = c6 .before .before in
+    let a = c8 .args in
+    let at : 24 * c6 .loop .i ≡ 192 = omega (arith, c6 .loop .inv .0, c5 .loop-test .left) in
+    let i : c6 .loop .i ≡ 8 = omega arith in
+    tail-put (c6 .loop .bytes) (joined 8 (λ j. ticketBytes (getD (a .t2 .tickets) j free))) _ 192 (length (c6 .loop .bytes) - 192)
+    (ap (λ (m : ℕ). take m (c6 .loop .bytes)) (sym at) ∙ written-front 24 (λ j. ticketBytes (getD (a .t2 .tickets) j free)) (a .bytes .now) (c6 .loop .i) _ (c6 .loop .inv .1)
+    ∙ ap (λ (m : ℕ). joined m (λ j. ticketBytes (getD (a .t2 .tickets) j free))) i) (omega (arith, c6 .loop .inv .1 .size, c8 .pre))
+    ∙ ap (λ (l : List ℕ). joined 8 (λ j. ticketBytes (getD (a .t2 .tickets) j free)) ++ l) (c .before .before .put-numbers .ensures)
 
 pub put-program-spec : {M : Type 1} → statement M
 put-program-spec =

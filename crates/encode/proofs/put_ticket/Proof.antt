@@ -1,8 +1,9 @@
+-- The numbers are those of the definition.
+use mathlib.Core.Path.{_∙_}
 use mathlib.Core.List.{[], _∷_}
+use borrow.Author.Needs.{needs}
 use Rattle.image.specs.Image.{ticketNumbers, ticketBytes}
 use Rattle.image.specs.Numbers.{bytesOf}
-use mathlib.Core.Path.{_∙_}
-use borrow.Author.Needs.{needs}
 use Rattle.encode.proofs.put_ticket.Statement.{statement}
 use Rattle.encode.proofs.put_ticket.Tie as tie
 
@@ -21,10 +22,10 @@ same-length c = search needs
 returns : tie.Need-returns
 unfolding ticketBytes ticketNumbers
 returns c =
-    let c2 = c .before .before in
-    let c5 = c2 .before .before .before in
-    let k = c5 .before .before .before .before .before .args .k in
-    c2 .put-numbers .ensures
+    let c5 = c .before .before .before .before .before in
+    let c10 = c5 .before .before .before .before .before in
+    let k = c10 .args .k in
+    c .before .before .put-numbers .ensures
     ∙ (λ i. bytesOf (c5 .kind-number .ensures i ∷ k .number ∷ k .own ∷ k .other .pad ∷ k .other .program ∷ k .other .number ∷ k .first
     ∷ k .count ∷ k .rights .bits ∷ k .dock .pad ∷ k .dock .program ∷ k .dock .number ∷ []))
 

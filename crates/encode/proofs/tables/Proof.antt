@@ -1,14 +1,14 @@
-use Rattle.image.proofs.Lengths.{pads-long}
+-- The pads in front, the entries behind them.
+use Prim.Native.Nat.{_-_}
+use native.Mathlib.Omega.{arith}
+use mathlib.Core.Path.{_≡_, ap, _∙_}
+use mathlib.Core.List.{_++_}
+use lib.ListN.{drop, length-take, length-drop, length-append, length}
+use lib.Seq.{take-at}
+use borrow.Author.Needs.{needs}
 use Rattle.lists.proofs.PartLaws.{tail-put}
 use Rattle.image.specs.Image.{encode}
-use lib.Seq.{take-at}
-use lib.ListN.{drop, length-take, length-drop, length-append}
-use mathlib.Core.List.{_++_}
-use Prim.Native.Nat.{_-_}
-use mathlib.Core.Path.{_≡_, ap, _∙_}
-use native.Mathlib.Omega.{arith}
-use borrow.Author.Needs.{needs}
-use lib.ListN.{length}
+use Rattle.image.proofs.Lengths.{pads-long}
 use Rattle.encode.proofs.tables.Statement.{statement}
 use Rattle.encode.proofs.tables.Tie as tie
 
@@ -16,10 +16,14 @@ slice-relend-prefix-put-pads : tie.Need-slice-relend-prefix-put-pads
 slice-relend-prefix-put-pads c = search needs
 
 slice-aggregate-put-pads : tie.Need-slice-aggregate-put-pads
-slice-aggregate-put-pads c = simp length-take (omega (arith, c .before .before .before .before .pre))
+slice-aggregate-put-pads c =
+    let c4 = c .before .before .before .before in
+    simp length-take (omega (arith, c4 .pre))
 
 put-pads-requires : tie.Need-put-pads-requires
-put-pads-requires c κs = simp length-take (omega (arith, c .before .before .before .before .pre))
+put-pads-requires c κs =
+    let c4 = c .before .before .before .before in
+    simp length-take (omega (arith, c4 .pre))
 
 sub-put-entries : tie.Need-sub-put-entries
 sub-put-entries c = search needs
@@ -39,16 +43,15 @@ same-length c = search needs
 returns : tie.Need-returns
 unfolding encode
 returns c =
-    let c2 = c .before .before in
-    let c6 = c2 .before .before .before .before in
-    let s = c6 .before .before .before .before .before in
-    let a = s .args in
+    let c6 = c .before .before .before .before .before .before in
+    let c11 = c6 .before .before .before .before .before in
+    let a = c11 .args in
     let pads = c6 .put-pads .last .0 in
     let now = pads ++ drop 6208 (a .bytes .now) in
     let long : length pads ≡ 6208 = ap length (c6 .put-pads .ensures) ∙ pads-long (a .t) in
     tail-put now pads _ 6208 (length now - 6208) (take-at pads (drop 6208 (a .bytes .now)) 6208 long)
-    (omega (arith, length-append pads (drop 6208 (a .bytes .now)), length-drop 6208 (a .bytes .now), s .pre))
-    ∙ (λ i. c6 .put-pads .ensures i ++ c2 .put-entries .ensures i)
+    (omega (arith, length-append pads (drop 6208 (a .bytes .now)), length-drop 6208 (a .bytes .now), c11 .pre))
+    ∙ (λ i. c6 .put-pads .ensures i ++ c .before .before .put-entries .ensures i)
 
 pub tables-spec : {M : Type 1} → statement M
 tables-spec =

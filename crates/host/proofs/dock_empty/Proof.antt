@@ -1,11 +1,13 @@
-use Rattle.host.proofs.Answers.{not-emptied, all-emptied}
+-- Emptying, and its tables written as their image.
 use borrow.Author.Needs.{needs}
+use Rattle.host.proofs.Answers.{not-emptied, all-emptied}
 use Rattle.host.proofs.dock_empty.Statement.{statement}
 use Rattle.host.proofs.dock_empty.Tie as tie
 
 returns : tie.Need-returns
 returns c =
-    let a = c .before .before .before .args in
+    let c3 = c .before .before .before in
+    let a = c3 .args in
     not-emptied (a .tables .now) (a .store .now) (c .if1 .taken)
 
 empty-requires : tie.Need-empty-requires
@@ -23,8 +25,10 @@ same-length-2 c = search needs
 returns-2 : tie.Need-returns-2
 returns-2 c =
     let c7 = c .before .before .before .before .before .before .before in
-    let a = c7 .before .before .before .before .before .args in
-    all-emptied (a .tables .now) (a .store .now) (c7 .before .before .if1 .left) _ _ _ (c7 .empty .ensures) (c .before .before .tables .ensures)
+    let c9 = c7 .before .before in
+    let c12 = c9 .before .before .before in
+    let a = c12 .args in
+    all-emptied (a .tables .now) (a .store .now) (c9 .if1 .left) _ _ _ (c7 .empty .ensures) (c .before .before .tables .ensures)
 
 pub dock-empty-spec : {M : Type 1} → statement M
 dock-empty-spec =

@@ -1,11 +1,12 @@
-use Rattle.machine.specs.Refusal.{_when_else_}
-use Rattle.host.specs.Host.{orderOf}
-use Rattle.batch.proofs.Refusals.{passed, failed, no-image, out-of-order, tables-ok}
-use Rattle.tables.specs.Order.{inOrder}
-use borrow.Author.Tests.{eq-eqb, ne-eqb}
+-- The tests in their order.
 use mathlib.Core.Path.{sym, ap, _∙_}
-use borrow.Author.Needs.{needs}
 use lib.ListN.{length}
+use borrow.Author.Needs.{needs}
+use borrow.Author.Tests.{eq-eqb, ne-eqb}
+use Rattle.tables.specs.Order.{inOrder}
+use Rattle.machine.specs.Refusal.{_when_else_}
+use Rattle.batch.proofs.Refusals.{passed, failed, no-image, out-of-order, tables-ok}
+use Rattle.host.specs.Host.{orderOf}
 use Rattle.host.proofs.dock_in_order.Statement.{statement}
 use Rattle.host.proofs.dock_in_order.Tie as tie
 
@@ -21,7 +22,8 @@ is-image-requires c κs = search needs
 returns-2 : tie.Need-returns-2
 unfolding orderOf _when_else_
 returns-2 c =
-    let a = c .before .before .before .before .args in
+    let c4 = c .before .before .before .before in
+    let a = c4 .args in
     rw (eq-eqb (length (a .tables .now)) 11328 (c .before .before .if1 .left), no-image (a .tables .now) (failed (c .before .is-image .ensures) (c .if2 .taken)))
 
 tables-requires : tie.Need-tables-requires
@@ -33,19 +35,25 @@ in-order-requires c κs = search needs
 returns-3 : tie.Need-returns-3
 unfolding orderOf _when_else_
 returns-3 c =
-    let a = c .before .before .before .before .before .before .before .args in
+    let c5 = c .before .before .before .before .before in
+    let c7 = c5 .before .before in
+    let a = c7 .args in
     rw (
-      eq-eqb (length (a .tables .now)) 11328 (c .before .before .before .before .before .if1 .left),
+      eq-eqb (length (a .tables .now)) 11328 (c5 .if1 .left),
       out-of-order (a .tables .now) (sym (ap inOrder (c .before .before .tables .ensures)) ∙ failed (c .before .in-order .ensures) (c .if3 .taken)),
     )
 
 returns-4 : tie.Need-returns-4
 unfolding orderOf _when_else_
 returns-4 c =
-    let a = c .before .before .before .before .before .before .before .args in
+    let c3 = c .before .before .before in
+    let c4 = c3 .before in
+    let c5 = c4 .before in
+    let c7 = c5 .before .before in
+    let a = c7 .args in
     rw (
-      eq-eqb (length (a .tables .now)) 11328 (c .before .before .before .before .before .if1 .left),
-      tables-ok (a .tables .now) (passed (c .before .before .before .before .is-image .ensures) (c .before .before .before .if2 .left))
+      eq-eqb (length (a .tables .now)) 11328 (c5 .if1 .left),
+      tables-ok (a .tables .now) (passed (c4 .is-image .ensures) (c3 .if2 .left))
           (sym (ap inOrder (c .before .before .tables .ensures)) ∙ passed (c .before .in-order .ensures) (c .if3 .left)),
     )
 

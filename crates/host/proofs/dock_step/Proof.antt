@@ -1,14 +1,17 @@
-use Rattle.host.proofs.OneRequest.{other-request, refused-alike, served-alike, whole-answer}
-use Rattle.batch.specs.Batch.{buffersOf}
+-- A batch of one request, whose result is the first number of its answer.
 use native.Mathlib.Omega.{arith}
 use borrow.Author.Needs.{needs}
+use Rattle.batch.specs.Batch.{buffersOf}
+use Rattle.host.proofs.OneRequest.{other-request, refused-alike, served-alike, whole-answer}
 use Rattle.host.proofs.dock_step.Statement.{statement}
 use Rattle.host.proofs.dock_step.Tie as tie
 
 returns : tie.Need-returns
 returns c =
-    let a = c .before .before .before .before .before .before .args in
-    other-request (buffersOf (a .tables .now) (a .store .now) (a .sheet .now) (a .request .now) (a .answer .now)) (c .if1 .taken)
+    let c6 = c .before .before .before .before .before .before in
+    let a = c6 .args in
+    let b = buffersOf (a .tables .now) (a .store .now) (a .sheet .now) (a .request .now) (a .answer .now) in
+    other-request b (c .if1 .taken)
 
 serve-requires : tie.Need-serve-requires
 serve-requires c κs = search needs
@@ -28,19 +31,23 @@ same-length-4 c = search needs
 returns-2 : tie.Need-returns-2
 returns-2 c =
     let c9 = c .before .before .before .before .before .before .before .before .before in
-    let s = c9 .before .before .before .before .before .before .before .before .before .before .before in
-    let a = s .args in
-    refused-alike (buffersOf (a .tables .now) (a .store .now) (a .sheet .now) (a .request .now) (a .answer .now)) (c9 .before .before .before .before .before .if1 .left) _ _ _ _ _ (c9 .serve .ensures) (c .if2 .taken)
+    let c14 = c9 .before .before .before .before .before in
+    let c20 = c14 .before .before .before .before .before .before in
+    let a = c20 .args in
+    let b = buffersOf (a .tables .now) (a .store .now) (a .sheet .now) (a .request .now) (a .answer .now) in
+    refused-alike b (c14 .if1 .left) _ _ _ _ _ (c9 .serve .ensures) (c .if2 .taken)
 
 slice-read-result : tie.Need-slice-read-result
 slice-read-result c =
     let c10 = c .before .before .before .before .before .before .before .before .before .before in
-    let s = c10 .before .before .before .before .before .before .before .before .before .before .before in
-    let a = s .args in
+    let c15 = c10 .before .before .before .before .before in
+    let c21 = c15 .before .before .before .before .before .before in
+    let a = c21 .args in
+    let b = buffersOf (a .tables .now) (a .store .now) (a .sheet .now) (a .request .now) (a .answer .now) in
     omega (
       arith,
       c10 .serve .kept .1 .1 .1 .1 .0,
-      whole-answer (buffersOf (a .tables .now) (a .store .now) (a .sheet .now) (a .request .now) (a .answer .now)) (c10 .before .before .before .before .before .if1 .left) _ _ _ _ _ (c10 .serve .ensures) (c .before .if2 .left),
+      whole-answer b (c15 .if1 .left) _ _ _ _ _ (c10 .serve .ensures) (c .before .if2 .left),
     )
 
 same-length-5 : tie.Need-same-length-5
@@ -58,9 +65,11 @@ same-length-8 c = search needs
 returns-3 : tie.Need-returns-3
 returns-3 c =
     let c10 = c .before .before .before .before .before .before .before .before .before .before in
-    let s = c10 .before .before .before .before .before .before .before .before .before .before .before in
-    let a = s .args in
-    served-alike (buffersOf (a .tables .now) (a .store .now) (a .sheet .now) (a .request .now) (a .answer .now)) (c10 .before .before .before .before .before .if1 .left) _ _ _ _ _ (c10 .serve .ensures) (c .before .if2 .left)
+    let c15 = c10 .before .before .before .before .before in
+    let c21 = c15 .before .before .before .before .before .before in
+    let a = c21 .args in
+    let b = buffersOf (a .tables .now) (a .store .now) (a .sheet .now) (a .request .now) (a .answer .now) in
+    served-alike b (c15 .if1 .left) _ _ _ _ _ (c10 .serve .ensures) (c .before .if2 .left)
 
 pub dock-step-spec : {M : Type 1} → statement M
 dock-step-spec =
