@@ -37,7 +37,7 @@ extern "C" {
 #define DOCK_REQUEST 9    /* numbers of a request */
 #define DOCK_ANSWER 3     /* numbers of an answer */
 
-/* Bytes of stack that a call may take, its own frame included. */
+/* Bytes of stack that a call may take, its own frame included: measured by tests/stack.c, not proved. */
 #define DOCK_STACK 131072
 
 /* How many there are. */

@@ -1,4 +1,4 @@
-//! Document 01 in plain Rust: a second implementation, written from the paper alone, that the proved
+//! Document 01 in plain Rust, as docs/DECISIONS.md reads it: a second implementation that the proved
 //! library is compared with and timed against. It shares no code and no layout with the library.
 //!
 //! A program's tickets and the dock's entries made for it stand in two tables of eight. Tables in order
