@@ -1,9 +1,11 @@
-// The tables read from their image, and the test which bytes are one.
+// The tables read from their image, whole or by place, and the test which bytes are one.
 ghost use Prim.Native.Nat.{_+_, _<_, _≤_};
 ghost use mathlib.Core.Path.{_≡_};
-ghost use lib.ListN.{length};
+ghost use lib.ListN.{length, getD};
 ghost use Rattle.image.specs.Numbers.{numberAt};
+ghost use Rattle.tables.specs.Names.{free, noEntry};
 ghost use Rattle.image.specs.Image.{kindOf, nameAt, ticketIn, programIn, padIn, entryIn, decode, kindsOk, livesOk, isImage};
+ghost use Rattle.decode.specs.Places.{ticketsIn, lastsIn, entriesIn};
 use rights::Rights;
 use tables::Entry;
 use tables::Kind;
@@ -13,10 +15,12 @@ use tables::Program;
 use tables::Tables;
 use tables::Ticket;
 
-// Bytes of a ticket, of a program, of a pad and of an entry; where the entries begin; all.
+// Bytes of a ticket, of a program, of a pad and of an entry; where a program's last number stands in it and where the entries begin; all.
 const TICKET: usize = 24;
 
 const PROGRAM: usize = 194;
+
+const LAST: usize = 192;
 
 const PAD: usize = 1552;
 
@@ -97,7 +101,7 @@ fn program_in(bytes: &[u8]) -> Program
     }
     Program {
         tickets: tickets,
-        last: number_at(bytes, 192),
+        last: number_at(bytes, LAST),
     }
 }
 
@@ -182,6 +186,33 @@ pub fn tables(bytes: &[u8]) -> Tables
         pads: pads,
         entries: entries,
     }
+}
+
+// ---- by place
+
+// The ticket at a place: 8 * the program, counted over all pads, + the place in it.
+pub fn ticket_at(bytes: &[u8], place: usize) -> Ticket
+    requires { ⌜ (length (now bytes) ≡ 11328) × (place < 256) ⌝ }
+    ensures { λ r. ⌜ r ≡ getD (ticketsIn (now (bytes .entry))) place free ⌝ }
+{
+    let at = PROGRAM * (place / 8) + TICKET * (place % 8);
+    ticket_in(&bytes[at..])
+}
+
+// The last number of a program, counted over all pads.
+pub fn last_at(bytes: &[u8], program: usize) -> u16
+    requires { ⌜ (length (now bytes) ≡ 11328) × (program < 32) ⌝ }
+    ensures { λ r. ⌜ r ≡ getD (lastsIn (now (bytes .entry))) program 0 ⌝ }
+{
+    number_at(bytes, PROGRAM * program + LAST)
+}
+
+pub fn entry_at(bytes: &[u8], place: usize) -> Entry
+    requires { ⌜ (length (now bytes) ≡ 11328) × (place < 256) ⌝ }
+    ensures { λ r. ⌜ r ≡ getD (entriesIn (now (bytes .entry))) place noEntry ⌝ }
+{
+    let at = ENTRIES + ENTRY * place;
+    entry_in(&bytes[at..])
 }
 
 // ---- which bytes are an image

@@ -1,0 +1,2 @@
+mod Turns
+pub mod Laws
