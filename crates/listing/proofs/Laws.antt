@@ -7,15 +7,15 @@ use mathlib.Core.Logic.{_⊎_, inl, inr}
 use mathlib.Core.Bool.{Bool, true, false}
 use mathlib.Core.List.{List}
 use lib.Dec.{eqb}
-use lib.ListN.{length, getD, set, replicate, length-replicate, length-set}
-use lib.Seq.{getD-set-same, getD-set-other}
+use lib.ListN.{length, getD, set, take, replicate, length-replicate, length-set}
+use lib.Seq.{getD-set-same, getD-set-other, getD-take, length-take-le}
 use borrow.Author.Tests.{eqb-true, eqb-false}
 use Rattle.lists.specs.Lists.{allAt}
 use Rattle.lists.proofs.Tests.{Case, pass, fail, case}
 use Rattle.lists.proofs.Reading.{any-default, same-all}
 use Rattle.lists.proofs.Everywhere.{allAt-intro}
 use Rattle.lists.proofs.Loops.{allAt-broken}
-use Rattle.listing.specs.Listing.{Spot, Listing}
+use Rattle.listing.specs.Listing.{Listing}
 
 module _ {A : Type 0} (d : A) (test : A → Bool) (xs : List A) (n : ℕ) (places : List ℕ) (count : ℕ) (listing : Listing d test xs n places count) where
   -- what holds of the listed places holds wherever the test passes
@@ -40,6 +40,21 @@ module _ {A : Type 0} (d : A) (test : A → Bool) (xs : List A) (n : ℕ) (place
 
     pub listed-broken : (j : ℕ) → j < count → f (getD places j 0) (getD xs (getD places j 0) d) ≡ false → false ≡ allAt f 0 xs
     listed-broken j h e = allAt-broken d f xs (getD places j 0) (omega (arith, listing .low j h, long)) e
+
+  -- the listed places by themselves
+  pub listed-front : count ≤ length places → Listing d test xs n (take count places) (length (take count places))
+  listed-front h =
+      subst (Listing d test xs n (take count places)) (sym (length-take-le count places h))
+      (record {
+        most = listing .most;
+        low = λ j g. omega (arith, front j g, listing .low j g);
+        passes = λ j g. subst (λ (p : ℕ). test (getD xs p d) ≡ true) (sym (front j g)) (listing .passes j g);
+        rising = λ i j a g. omega (arith, front i (omega (arith, a, g)), front j g, listing .rising i j a g);
+        all = λ p g t. let s = listing .all p g t in record { at = s .at; low = s .low; here = front (s .at) (s .low) ∙ s .here };
+      })
+    where
+      front : (j : ℕ) → j < count → getD (take count places) j 0 ≡ getD places j 0
+      front j g = getD-take count places j 0 g
 
 -- ---- a buffer written at the listed places
 -- the first i of them have what is wanted; every other place has it too, or still what the buffer began with

@@ -5,16 +5,15 @@ use mathlib.Core.Path.{_≡_, sym, subst, _∙_}
 use mathlib.Core.Bool.{Bool, true, false, cond}
 use mathlib.Core.List.{List}
 use lib.Dec.{eqb}
-use lib.ListN.{length, getD, set, length-set}
+use lib.ListN.{length, getD, set}
 use lib.Seq.{getD-set-same, getD-set-other}
 use borrow.Author.Tests.{eqb-true, eqb-false}
 use Rattle.lists.proofs.Tests.{Case, pass, fail, case, contradiction}
 use Rattle.listing.specs.Listing.{Spot, Listing}
 
 module _ {A : Type 0} (d : A) (test : A → Bool) (xs : List A) where
-  pub listed-none : (places : List ℕ) → length places ≡ 256 → Listing d test xs 0 places 0
-  listed-none places e = record {
-    long = e;
+  pub listed-none : (places : List ℕ) → Listing d test xs 0 places 0
+  listed-none places = record {
     most = omega arith;
     low = λ j h. absurd (omega (arith, h));
     passes = λ j h. absurd (omega (arith, h));
@@ -25,7 +24,7 @@ module _ {A : Type 0} (d : A) (test : A → Bool) (xs : List A) where
   pub listed-to : {i n count : ℕ} {places : List ℕ} → i ≡ n → Listing d test xs i places count → Listing d test xs n places count
   listed-to {i} {n} {count} {places} e so = subst (λ (m : ℕ). Listing d test xs m places count) e so
 
-  module _ (i : ℕ) (places : List ℕ) (count : ℕ) (so : Listing d test xs i places count) (room : i < 256) where
+  module _ (i : ℕ) (places : List ℕ) (count : ℕ) (so : Listing d test xs i places count) (room : i < length places) where
     abbrev now : List ℕ
     now = set places count i
 
@@ -34,14 +33,13 @@ module _ {A : Type 0} (d : A) (test : A → Bool) (xs : List A) where
     kept j h = getD-set-other places count j i 0 (λ e. omega (arith, e, h))
 
     new : getD now count 0 ≡ i
-    new = getD-set-same places count i 0 (omega (arith, so .long, so .most, room))
+    new = getD-set-same places count i 0 (omega (arith, so .most, room))
 
     stays : (p m : ℕ) → count ≤ m → Spot places count p → Spot now m p
     stays p m g s = record { at = s .at; low = omega (arith, s .low, g); here = kept (s .at) (s .low) ∙ s .here }
 
     skip : test (getD xs i d) ≡ false → Listing d test xs (i + 1) now count
     skip e = record {
-      long = length-set places count i ∙ so .long;
       most = omega (arith, so .most);
       low = λ j h. omega (arith, kept j h, so .low j h);
       passes = λ j h. subst (λ (p : ℕ). test (getD xs p d) ≡ true) (sym (kept j h)) (so .passes j h);
@@ -55,7 +53,6 @@ module _ {A : Type 0} (d : A) (test : A → Bool) (xs : List A) where
 
     push : test (getD xs i d) ≡ true → Listing d test xs (i + 1) now (count + 1)
     push e = record {
-      long = length-set places count i ∙ so .long;
       most = omega (arith, so .most);
       low = λ j h. below j h (case (eqb j count));
       passes = λ j h. passing j h (case (eqb j count));

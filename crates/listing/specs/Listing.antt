@@ -17,19 +17,18 @@ pub record Spot (places : List ℕ) (count p : ℕ) : Type 0 where
 
 -- the first `count` places are those of the first n elements that pass
 pub record Listing {A : Type 0} (d : A) (test : A → Bool) (xs : List A) (n : ℕ) (places : List ℕ) (count : ℕ) : Type 0 where
-  pub long : length places ≡ 256
   pub most : count ≤ n
   pub low : (j : ℕ) → j < count → getD places j 0 < n
   pub passes : (j : ℕ) → j < count → test (getD xs (getD places j 0) d) ≡ true
   pub rising : (i j : ℕ) → i < j → j < count → getD places i 0 < getD places j 0
   pub all : (p : ℕ) → p < n → test (getD xs p d) ≡ true → Spot places count p
 
--- of all 256 tickets, those of a kind; of all 256 entries, those that pass
-abbrev pub TicketsListed : (Ticket → Bool) → List Ticket → List ℕ → ℕ → Type 0
-TicketsListed test tickets places count = Listing free test tickets 256 places count
+-- the places of all tickets, or entries, that pass
+abbrev pub TicketsListed : (Ticket → Bool) → List Ticket → List ℕ → Type 0
+TicketsListed test tickets places = Listing free test tickets 256 places (length places)
 
-abbrev pub EntriesListed : (Entry → Bool) → List Entry → List ℕ → ℕ → Type 0
-EntriesListed test entries places count = Listing noEntry test entries 256 places count
+abbrev pub EntriesListed : (Entry → Bool) → List Entry → List ℕ → Type 0
+EntriesListed test entries places = Listing noEntry test entries 256 places (length places)
 
 -- the entry is directly under the store, or hangs under another
 abbrev pub isRoot : Entry → Bool

@@ -5,8 +5,9 @@ ghost use mathlib.Core.Path.{_≡_};
 ghost use mathlib.Core.Bool.{cond};
 ghost use lib.ListN.{length};
 ghost use Rattle.tables.specs.Kinds.{isTaken, isChild, isRecall};
+ghost use Rattle.tables.specs.Names.{free, noEntry};
 ghost use Rattle.decode.specs.Places.{ticketsIn, entriesIn};
-ghost use Rattle.listing.specs.Listing.{TicketsListed, EntriesListed, isRoot, isHung};
+ghost use Rattle.listing.specs.Listing.{Listing, isRoot, isHung};
 use tables::Entry;
 
 // How many are listed.
@@ -35,7 +36,7 @@ pub fn list_tickets(
     recalls: &mut [u16],
 ) -> Tickets
     requires { ⌜ (length (now image) ≡ 11328) × ((length (now taken) ≡ 256) × ((length (now children) ≡ 256) × (length (now recalls) ≡ 256))) ⌝ }
-    ensures { λ r. ⌜ TicketsListed (λ k. isTaken (k .kind)) (ticketsIn (now (image .entry))) (now (taken .exit)) (r .taken) × (TicketsListed (λ k. isChild (k .kind)) (ticketsIn (now (image .entry))) (now (children .exit)) (r .children) × TicketsListed (λ k. isRecall (k .kind)) (ticketsIn (now (image .entry))) (now (recalls .exit)) (r .recalls)) ⌝ }
+    ensures { λ r. ⌜ Listing free (λ k. isTaken (k .kind)) (ticketsIn (now (image .entry))) 256 (now (taken .exit)) (r .taken) × (Listing free (λ k. isChild (k .kind)) (ticketsIn (now (image .entry))) 256 (now (children .exit)) (r .children) × Listing free (λ k. isRecall (k .kind)) (ticketsIn (now (image .entry))) 256 (now (recalls .exit)) (r .recalls)) ⌝ }
 {
     let mut a: usize = 0;
     let mut b: usize = 0;
@@ -82,7 +83,7 @@ fn is_hung(e: Entry) -> bool
 
 pub fn list_entries(image: &[u8], roots: &mut [u16], hung: &mut [u16]) -> Entries
     requires { ⌜ (length (now image) ≡ 11328) × ((length (now roots) ≡ 256) × (length (now hung) ≡ 256)) ⌝ }
-    ensures { λ r. ⌜ EntriesListed isRoot (entriesIn (now (image .entry))) (now (roots .exit)) (r .roots) × EntriesListed isHung (entriesIn (now (image .entry))) (now (hung .exit)) (r .hung) ⌝ }
+    ensures { λ r. ⌜ Listing noEntry isRoot (entriesIn (now (image .entry))) 256 (now (roots .exit)) (r .roots) × Listing noEntry isHung (entriesIn (now (image .entry))) 256 (now (hung .exit)) (r .hung) ⌝ }
 {
     let mut a: usize = 0;
     let mut b: usize = 0;

@@ -1,7 +1,8 @@
 -- After i turns the first i places are listed.
 use Prim.Native.Nat.{_-_, _≤_}
 use native.Mathlib.Omega.{arith}
-use mathlib.Core.Path.{_≡_}
+use mathlib.Core.Path.{_≡_, _∙_}
+use lib.ListN.{length, length-set}
 use borrow.Author.Needs.{needs}
 use Rattle.tables.specs.Names.{noEntry}
 use Rattle.decode.specs.Places.{entriesIn}
@@ -13,17 +14,15 @@ use Rattle.listing.proofs.list_entries.Tie as tie
 abbrev Inv-loop : tie.InvT-loop
 Inv-loop image roots₀ hung₀ a₀ b₀ i₀ roots hung a b i =
     (i ≤ 256)
+    × (((length roots ≡ 256) × ((length hung ≡ 256)))
     × (Listing noEntry isRoot (entriesIn image) i roots a
-    × (Listing noEntry isHung (entriesIn image) i hung b))
+    × (Listing noEntry isHung (entriesIn image) i hung b)))
 
 abbrev μ-loop : tie.MeasureT-loop
 μ-loop image roots₀ hung₀ a₀ b₀ i₀ roots hung a b i = 256 - i
 
 loop-holds : tie.Need-loop-holds Inv-loop μ-loop
-loop-holds c = (
-  omega arith,
-  (listed-none noEntry isRoot _ _ (c .before .before .before .pre .1 .0), listed-none noEntry isHung _ _ (c .before .before .before .pre .1 .1)),
-)
+loop-holds c = (omega arith, (c .before .before .before .pre .1, (listed-none noEntry isRoot _ _, listed-none noEntry isHung _ _)))
 
 entry-at-requires : tie.Need-entry-at-requires Inv-loop μ-loop
 entry-at-requires c κs = search needs
@@ -35,16 +34,16 @@ add-i : tie.Need-add-i Inv-loop μ-loop
 add-i c = search needs
 
 mul-roots : tie.Need-mul-roots Inv-loop μ-loop
-mul-roots c = omega (arith, c .before .before .loop .inv .1 .0 .most)
+mul-roots c = omega (arith, c .before .before .loop .inv .1 .1 .0 .most)
 
 slice-write-roots : tie.Need-slice-write-roots Inv-loop μ-loop
-slice-write-roots c = omega (arith, c .before .before .loop .inv .1 .0 .most, c .before .before .loop .inv .1 .0 .long)
+slice-write-roots c = omega (arith, c .before .before .loop .inv .1 .1 .0 .most, c .before .before .loop .inv .1 .0 .0)
 
 mul-hung : tie.Need-mul-hung Inv-loop μ-loop
-mul-hung c = omega (arith, c .before .before .loop .inv .1 .1 .most)
+mul-hung c = omega (arith, c .before .before .loop .inv .1 .1 .1 .most)
 
 slice-write-hung : tie.Need-slice-write-hung Inv-loop μ-loop
-slice-write-hung c = omega (arith, c .before .before .loop .inv .1 .1 .most, c .before .before .loop .inv .1 .1 .long)
+slice-write-hung c = omega (arith, c .before .before .loop .inv .1 .1 .1 .most, c .before .before .loop .inv .1 .0 .1)
 
 is-root-requires : tie.Need-is-root-requires Inv-loop μ-loop
 is-root-requires c κs = search needs
@@ -53,7 +52,7 @@ one-if-requires : tie.Need-one-if-requires Inv-loop μ-loop
 one-if-requires c κs = search needs
 
 add-a : tie.Need-add-a Inv-loop μ-loop
-add-a c = omega (arith, c .before .before .before .before .loop .inv .1 .0 .most, c .one-if .ensures .1)
+add-a c = omega (arith, c .before .before .before .before .loop .inv .1 .1 .0 .most, c .one-if .ensures .1)
 
 is-hung-requires : tie.Need-is-hung-requires Inv-loop μ-loop
 is-hung-requires c κs = search needs
@@ -62,7 +61,7 @@ one-if-requires-2 : tie.Need-one-if-requires-2 Inv-loop μ-loop
 one-if-requires-2 c κs = search needs
 
 add-b : tie.Need-add-b Inv-loop μ-loop
-add-b c = omega (arith, c .before .before .before .before .before .before .loop .inv .1 .1 .most, c .one-if2 .ensures .1)
+add-b c = omega (arith, c .before .before .before .before .before .before .loop .inv .1 .1 .1 .most, c .one-if2 .ensures .1)
 
 loop-less : tie.Need-loop-less Inv-loop μ-loop
 loop-less c = search needs
@@ -75,21 +74,24 @@ loop-again c =
     let e = c4 .entry-at .ensures in (
       omega arith,
       (
-        listed-turn noEntry isRoot l (c6 .loop .i) _ _ (c6 .loop .inv .1 .0) (omega arith) _ e _ (c .before .before .before .is-root .ensures) _ (c .before .before .one-if .ensures .0),
-        listed-turn noEntry isHung l (c6 .loop .i) _ _ (c6 .loop .inv .1 .1) (omega arith) _ e _ (c .before .is-hung .ensures) _ (c .one-if2 .ensures .0),
+        (length-set (c6 .loop .roots) (c6 .loop .a) (c6 .loop .i) ∙ c6 .loop .inv .1 .0 .0, length-set (c6 .loop .hung) (c6 .loop .b) (c6 .loop .i) ∙ c6 .loop .inv .1 .0 .1),
+        (
+          listed-turn noEntry isRoot l (c6 .loop .i) _ _ (c6 .loop .inv .1 .1 .0) (omega (arith, c6 .loop .inv .1 .0)) _ e _ (c .before .before .before .is-root .ensures) _ (c .before .before .one-if .ensures .0),
+          listed-turn noEntry isHung l (c6 .loop .i) _ _ (c6 .loop .inv .1 .1 .1) (omega (arith, c6 .loop .inv .1 .0)) _ e _ (c .before .is-hung .ensures) _ (c .one-if2 .ensures .0),
+        ),
       ),
     )
 
 same-length : tie.Need-same-length Inv-loop μ-loop
-same-length c = omega (arith, c .before .loop .inv .1 .0 .long, c .before .before .before .before .before .pre .1 .0)
+same-length c = omega (arith, c .before .loop .inv .1 .0 .0, c .before .before .before .before .before .pre .1 .0)
 
 same-length-2 : tie.Need-same-length-2 Inv-loop μ-loop
-same-length-2 c = omega (arith, c .before .loop .inv .1 .1 .long, c .before .before .before .before .before .pre .1 .1)
+same-length-2 c = omega (arith, c .before .loop .inv .1 .0 .1, c .before .before .before .before .before .pre .1 .1)
 
 returns : tie.Need-returns Inv-loop μ-loop
 returns c =
     let z : c .before .loop .i ≡ 256 = omega arith in
-    (listed-to noEntry _ _ z (c .before .loop .inv .1 .0), listed-to noEntry _ _ z (c .before .loop .inv .1 .1))
+    (listed-to noEntry _ _ z (c .before .loop .inv .1 .1 .0), listed-to noEntry _ _ z (c .before .loop .inv .1 .1 .1))
 
 pub list-entries-spec : {M : Type 1} → statement M
 list-entries-spec =
