@@ -7,11 +7,8 @@ use Rattle.lists.specs.Tests.{implies}
 use Rattle.lists.specs.Lists.{all}
 use Rattle.tables.specs.declared.Entry.{Entry}
 use Rattle.tables.specs.Order.{underStore, parentEntryOk}
+use Rattle.listing.specs.Listing.{isHung}
 use Rattle.entry_notes.specs.Notes.{noteOf, entryBy}
-
--- the entry hangs under another
-abbrev pub isHung : Entry → Bool
-isHung e = e .live && not (underStore e)
 
 -- "A parent entry is live, has the pass on right and contains the entry's sheets and rights."
 unfoldable pub hasParent : List ℕ → List ℕ → List Entry → Entry → Bool

@@ -5,7 +5,6 @@ use mathlib.Core.Bool.{Bool, true, not, _&&_}
 use mathlib.Core.List.{List}
 use lib.ListN.{length, getD}
 use Rattle.tables.specs.declared.{Ticket.Ticket, Entry.Entry}
-use Rattle.tables.specs.Kinds.{isTaken, isChild, isRecall}
 use Rattle.tables.specs.Names.{free, noEntry}
 use Rattle.tables.specs.Order.{underStore}
 
@@ -29,6 +28,10 @@ TicketsListed test tickets places = Listing free test tickets 256 places (length
 
 abbrev pub EntriesListed : (Entry → Bool) → List Entry → List ℕ → Type 0
 EntriesListed test entries places = Listing noEntry test entries 256 places (length places)
+
+-- each of the places is below n
+abbrev pub AllBelow : ℕ → List ℕ → Type 0
+AllBelow n places = (j : ℕ) → j < length places → getD places j 0 < n
 
 -- the entry is directly under the store, or hangs under another
 abbrev pub isRoot : Entry → Bool

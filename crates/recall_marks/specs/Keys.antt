@@ -1,15 +1,16 @@
 -- Keys of recalls' targets, and the marks of the places among them.
 use Prim.Native.Nat.{ℕ, _+_, _*_, _<_}
 use mathlib.Core.Path.{_≡_}
-use mathlib.Core.Bool.{Bool, true, cond}
+use mathlib.Core.Bool.{Bool, true, not, cond}
 use mathlib.Core.List.{List}
 use lib.Dec.{eqb, ltb}
-use lib.ListN.{getD}
+use lib.ListN.{length, getD}
 use Rattle.lists.specs.Tests.{implies}
 use Rattle.lists.specs.Lists.{some, noTwo}
 use Rattle.tables.specs.declared.{Name.Name, Ticket.Ticket}
 use Rattle.tables.specs.Kinds.{isChild, isRecall}
 use Rattle.index.specs.Places.{placeIn}
+use Rattle.listing.specs.Listing.{Listing}
 
 -- the key of a target: its place, or where it has none a number above 256 of its own
 unfoldable pub keyOf : ℕ → Name → ℕ
@@ -24,6 +25,10 @@ isPlace key = ltb key 256
 
 abbrev pub isDead : ℕ → Bool
 isDead key = ltb 256 key
+
+-- the places that have a key are listed
+abbrev pub KeysListed : List ℕ → List ℕ → Type 0
+KeysListed keys places = Listing 256 (λ key. not (eqb key 256)) keys 256 places (length places)
 
 -- what marking the places tells: whether none stands twice among the keys, and if so, which of them stand there
 pub record Marked (keys marks : List ℕ) (r : Bool) : Type 0 where

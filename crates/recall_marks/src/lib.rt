@@ -1,12 +1,14 @@
 // "No target has two recalls; every child has one": a test of the targets' keys, one for each place. A key below 256 is the place of a
 // live target, a key above 256 names a target without a place, and 256 stands where there is no recall.
 ghost use mathlib.Core.Path.{_≡_};
-ghost use mathlib.Core.List.{map};
+ghost use mathlib.Core.List.{List, map};
 ghost use lib.Dec.{eqb};
 ghost use lib.ListN.{length, replicate};
 ghost use Rattle.lists.specs.Lists.{some, noTwo, allAt};
-ghost use Rattle.recall_marks.specs.Keys.{keyOf, targetKey, isDead, Marked, childMarked};
-use index::Flat;
+ghost use Rattle.tables.specs.Kinds.{isChild, isRecall};
+ghost use Rattle.decode.specs.Places.{ticketsIn};
+ghost use Rattle.listing.specs.Listing.{TicketsListed, AllBelow};
+ghost use Rattle.recall_marks.specs.Keys.{keyOf, targetKey, isDead, KeysListed, Marked, childMarked};
 use tables::Name;
 use tables::Ticket;
 
@@ -35,27 +37,28 @@ fn target_key(numbers: &[u16], k: Ticket) -> usize
     key_of(place, target)
 }
 
-// The keys of all places.
-pub fn write_keys(f: Flat, numbers: &[u16], keys: &mut [usize])
-    requires { ⌜ (length (now numbers) ≡ 256) × (length (now keys) ≡ 256) ⌝ }
-    ensures { λ _. ⌜ now (keys .exit) ≡ map (targetKey (now (numbers .entry))) (f .tickets) ⌝ }
+// The keys of all places. `keys` is lent with 256 at each place, and only those of recalls are written.
+pub fn write_keys(image: &[u8], numbers: &[u16], recalls: &[u16], keys: &mut [usize])
+    requires { ⌜ (length (now image) ≡ 11328) × ((length (now numbers) ≡ 256) × ((now keys ≡ replicate 256 256) × TicketsListed (λ k. isRecall (k .kind)) (ticketsIn (now image)) (now recalls))) ⌝ }
+    ensures { λ _. ⌜ now (keys .exit) ≡ map (targetKey (now (numbers .entry))) (ticketsIn (now (image .entry))) ⌝ }
 {
     let mut i: usize = 0;
-    while i < 256 {
-        let k = f.tickets[i];
-        keys[i] = target_key(numbers, k);
+    while i < recalls.len() {
+        let at = chains::wide(recalls[i]);
         i = i + 1;
+        let k = decode::ticket_at(image, at);
+        keys[at] = target_key(numbers, k);
     }
 }
 
 // No place is the target of two recalls. The places of targets are marked on the way.
-pub fn mark_places(keys: &[usize; 256], marks: &mut [u8; 256]) -> bool
-    requires { ⌜ (length (now keys) ≡ 256) × (now marks ≡ replicate 256 0) ⌝ }
+pub fn mark_places(keys: &[usize; 256], recalls: &[u16], marks: &mut [u8; 256]) -> bool
+    requires { ⌜ (length (now keys) ≡ 256) × ((now marks ≡ replicate 256 0) × KeysListed (now keys) (now recalls)) ⌝ }
     ensures { λ r. ⌜ Marked (now (keys .entry)) (now (marks .exit)) r ⌝ }
 {
     let mut i: usize = 0;
-    while i < 256 {
-        let key = keys[i];
+    while i < recalls.len() {
+        let key = keys[chains::wide(recalls[i])];
         i = i + 1;
         if key < 256 {
             if marks[key] != 0 {
@@ -82,15 +85,15 @@ fn has(numbers: &[usize], x: usize) -> bool
 }
 
 // No target without a place has two recalls. Such targets are few: each is looked for among those before it.
-pub fn dead_once(keys: &[usize; 256]) -> bool
-    requires { ⌜ length (now keys) ≡ 256 ⌝ }
+pub fn dead_once(keys: &[usize; 256], recalls: &[u16]) -> bool
+    requires { ⌜ (length (now keys) ≡ 256) × KeysListed (now keys) (now recalls) ⌝ }
     ensures { λ r. ⌜ r ≡ noTwo isDead eqb (now (keys .entry)) ⌝ }
 {
     let mut dead: [usize; 256] = [0; 256];
     let mut count: usize = 0;
     let mut i: usize = 0;
-    while i < 256 {
-        let key = keys[i];
+    while i < recalls.len() {
+        let key = keys[chains::wide(recalls[i])];
         i = i + 1;
         if 256 < key {
             if has(&dead[..count], key) {
@@ -104,19 +107,16 @@ pub fn dead_once(keys: &[usize; 256]) -> bool
 }
 
 // Every child's place is marked.
-pub fn children_marked(f: Flat, marks: &[u8; 256]) -> bool
-    ensures { λ r. ⌜ r ≡ allAt (childMarked (now (marks .entry))) 0 (f .tickets) ⌝ }
+pub fn children_marked(children: &[u16], marks: &[u8; 256]) -> bool
+    requires { ⌜ AllBelow 256 (now children) ⌝ }
+    ensures { λ r. ⌜ ((tickets : List Ticket) → length tickets ≡ 256 → TicketsListed (λ k. isChild (k .kind)) tickets (now (children .entry)) → r ≡ allAt (childMarked (now (marks .entry))) 0 tickets) ⌝ }
 {
     let mut i: usize = 0;
-    while i < 256 {
-        let at = i;
-        let k = f.tickets[at];
+    while i < children.len() {
+        let at = chains::wide(children[i]);
         i = i + 1;
-        let kind = k.kind;
-        if kind.is_child() {
-            if marks[at] != 1 {
-                return false;
-            }
+        if marks[at] != 1 {
+            return false;
         }
     }
     true

@@ -3,17 +3,17 @@ use Prim.Native.Nat.{ℕ}
 use mathlib.Core.Path.{_≡_}
 use mathlib.Core.Bool.{Bool, _&&_}
 use mathlib.Core.List.{List}
-use Rattle.tables.specs.declared.{Name.Name, Ticket.Ticket, Entry.Entry, Tables.Tables}
+use Rattle.tables.specs.declared.{Name.Name, Ticket.Ticket, Tables.Tables}
 use Rattle.tables.specs.Lookup.{lookup}
 use Rattle.tables.specs.Chains.{ownName}
 use Rattle.tables.specs.Order.{recallParentOk, targetOk}
-use Rattle.index.specs.declared.Flat.{Flat}
 use Rattle.index.specs.Places.{Flattened, Numbered, Noted}
+use Rattle.decode.specs.Places.{ticketsIn, lastsIn, entriesIn}
 
--- f and es hold the tables t by place, and numbers and notes are an index of them
-pub record LaidOut (t : Tables) (f : Flat) (es : List Entry) (numbers notes : List ℕ) : Type 0 where
-  pub flat : Flattened t (f .tickets) (f .lasts)
-  pub entries : es ≡ t .entries
+-- the image says the tables t by place, and numbers and notes are an index of them
+pub record LaidOut (t : Tables) (image numbers notes : List ℕ) : Type 0 where
+  pub flat : Flattened t (ticketsIn image) (lastsIn image)
+  pub entries : entriesIn image ≡ t .entries
   pub numbered : Numbered t numbers
   pub noted : Noted t numbers notes
 

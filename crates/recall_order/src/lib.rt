@@ -1,4 +1,4 @@
-// T6: the recalls, over tickets laid out by place. One pass finds each recall's target and keeps its key, one tests each recall by
+// T6: the recalls, over an image by place. One pass finds each recall's target and keeps its key, one tests each recall by
 // itself, and the keys tell whether a target has two recalls and whether every child has one.
 ghost use Prim.Native.Nat.{_+_, _*_, _<_};
 ghost use mathlib.Core.Path.{_≡_};
@@ -7,15 +7,15 @@ ghost use mathlib.Core.List.{map};
 ghost use lib.ListN.{length, getD};
 ghost use Rattle.lists.specs.Tests.{between};
 ghost use Rattle.tables.specs.declared.Tables.{Tables};
-ghost use Rattle.tables.specs.Kinds.{isRecall};
+ghost use Rattle.tables.specs.Kinds.{isChild, isRecall};
 ghost use Rattle.tables.specs.Names.{isProgram};
 ghost use Rattle.tables.specs.Chains.{ownName};
 ghost use Rattle.tables.specs.Order.{everyTicket, t6};
-ghost use Rattle.index.specs.Places.{nameAt, Flattened, Numbered, Noted};
+ghost use Rattle.index.specs.Places.{nameAt};
+ghost use Rattle.decode.specs.Places.{ticketsIn, lastsIn};
+ghost use Rattle.listing.specs.Listing.{TicketsListed};
 ghost use Rattle.recall_marks.specs.Keys.{targetKey};
 ghost use Rattle.recall_order.specs.Recalls.{LaidOut, recallHolds};
-use index::Flat;
-use tables::Entry;
 use tables::Name;
 use tables::Ticket;
 
@@ -32,8 +32,9 @@ fn own_name(place: usize, k: Ticket) -> Name
 }
 
 // A name whose number its program was given: between 1 and the last.
-fn was_given(lasts: [u16; 32], n: Name) -> bool
-    ensures { λ r. ⌜ r ≡ (isProgram (n .pad) (n .program) && between 1 (getD lasts (8 * n .pad + n .program) 0) (n .number)) ⌝ }
+fn was_given(image: &[u8], n: Name) -> bool
+    requires { ⌜ length (now image) ≡ 11328 ⌝ }
+    ensures { λ r. ⌜ r ≡ (isProgram (n .pad) (n .program) && between 1 (getD (lastsIn (now (image .entry))) (8 * n .pad + n .program) 0) (n .number)) ⌝ }
 {
     if 3 < n.pad {
         return false;
@@ -41,7 +42,7 @@ fn was_given(lasts: [u16; 32], n: Name) -> bool
     if 7 < n.program {
         return false;
     }
-    let last = lasts[8 * chains::wide(n.pad) + chains::wide(n.program)];
+    let last = decode::last_at(image, 8 * chains::wide(n.pad) + chains::wide(n.program));
     rules::is_between(1, last, n.number)
 }
 
@@ -59,51 +60,48 @@ fn note_of(notes: &[u16], key: usize) -> usize
 // Each recall by itself: its parent is a grant with the pass on right, and its target a child of that grant, or a name on another pad whose
 // entry, if there is one, lies within the grant.
 fn each_holds(
-    f: Flat,
-    es: [Entry; 256],
+    image: &[u8],
     numbers: &[u16],
     notes: &[u16],
+    recalls: &[u16],
     keys: &[usize; 256],
 ) -> bool
-    requires { ⌜ (length (now numbers) ≡ 256) × ((length (now notes) ≡ 256) × (now keys ≡ map (targetKey (now numbers)) (f .tickets))) ⌝ }
-    ensures { λ r. ⌜ ((t : Tables) → LaidOut t f es (now (numbers .entry)) (now (notes .entry)) → r ≡ everyTicket isRecall (recallHolds t) t) ⌝ }
+    requires { ⌜ (length (now image) ≡ 11328) × ((length (now numbers) ≡ 256) × ((length (now notes) ≡ 256) × (TicketsListed (λ k. isRecall (k .kind)) (ticketsIn (now image)) (now recalls) × (now keys ≡ map (targetKey (now numbers)) (ticketsIn (now image)))))) ⌝ }
+    ensures { λ r. ⌜ ((t : Tables) → LaidOut t (now (image .entry)) (now (numbers .entry)) (now (notes .entry)) → r ≡ everyTicket isRecall (recallHolds t) t) ⌝ }
 {
     let mut i: usize = 0;
-    while i < 256 {
-        let at = i;
-        let key = keys[at];
+    while i < recalls.len() {
+        let at = chains::wide(recalls[i]);
         i = i + 1;
-        if key != 256 {
-            let k = f.tickets[at];
-            let own = own_name(at, k);
-            let target = k.other;
-            let place = index::place_of(numbers, own);
-            if 256 <= place {
+        let key = keys[at];
+        let k = decode::ticket_at(image, at);
+        let own = own_name(at, k);
+        let target = k.other;
+        let place = index::place_of(numbers, own);
+        if 256 <= place {
+            return false;
+        }
+        let grant = decode::ticket_at(image, place);
+        if !rules::recall_parent_ok(grant) {
+            return false;
+        }
+        if target.pad == own.pad {
+            if 256 < key {
                 return false;
             }
-            let grant = f.tickets[place];
-            if !rules::recall_parent_ok(grant) {
+            let child = decode::ticket_at(image, key);
+            if !rules::is_child_of(own, child) {
                 return false;
             }
-            if target.pad == own.pad {
-                if 256 < key {
+        } else {
+            if !was_given(image, target) {
+                return false;
+            }
+            let note = note_of(notes, key);
+            if note < 256 {
+                let e = decode::entry_at(image, note);
+                if !rules::far_entry_ok(grant, e) {
                     return false;
-                }
-                let child = f.tickets[key];
-                if !rules::is_child_of(own, child) {
-                    return false;
-                }
-            } else {
-                let lasts = f.lasts;
-                if !was_given(lasts, target) {
-                    return false;
-                }
-                let note = note_of(notes, key);
-                if note < 256 {
-                    let e = es[note];
-                    if !rules::far_entry_ok(grant, e) {
-                        return false;
-                    }
                 }
             }
         }
@@ -112,21 +110,27 @@ fn each_holds(
 }
 
 // T6, in tables whose numbers are distinct (T1) and whose entries are noted at their grants' places.
-pub fn recalls_ok(f: Flat, es: [Entry; 256], numbers: &[u16], notes: &[u16]) -> bool
-    requires { ⌜ (length (now numbers) ≡ 256) × (length (now notes) ≡ 256) ⌝ }
-    ensures { λ r. ⌜ ((t : Tables) → Flattened t (f .tickets) (f .lasts) → es ≡ t .entries → Numbered t (now (numbers .entry)) → Noted t (now (numbers .entry)) (now (notes .entry)) → r ≡ t6 t) ⌝ }
+pub fn recalls_ok(
+    image: &[u8],
+    numbers: &[u16],
+    notes: &[u16],
+    children: &[u16],
+    recalls: &[u16],
+) -> bool
+    requires { ⌜ (length (now image) ≡ 11328) × ((length (now numbers) ≡ 256) × ((length (now notes) ≡ 256) × (TicketsListed (λ k. isChild (k .kind)) (ticketsIn (now image)) (now children) × TicketsListed (λ k. isRecall (k .kind)) (ticketsIn (now image)) (now recalls)))) ⌝ }
+    ensures { λ r. ⌜ ((t : Tables) → LaidOut t (now (image .entry)) (now (numbers .entry)) (now (notes .entry)) → r ≡ t6 t) ⌝ }
 {
-    let mut keys: [usize; 256] = [0; 256];
-    recall_marks::write_keys(f, numbers, &mut keys);
-    if !each_holds(f, es, numbers, notes, &keys) {
+    let mut keys: [usize; 256] = [256; 256];
+    recall_marks::write_keys(image, numbers, recalls, &mut keys);
+    if !each_holds(image, numbers, notes, recalls, &keys) {
         return false;
     }
     let mut marks: [u8; 256] = [0; 256];
-    if !recall_marks::mark_places(&keys, &mut marks) {
+    if !recall_marks::mark_places(&keys, recalls, &mut marks) {
         return false;
     }
-    if !recall_marks::dead_once(&keys) {
+    if !recall_marks::dead_once(&keys, recalls) {
         return false;
     }
-    recall_marks::children_marked(f, &marks)
+    recall_marks::children_marked(children, &marks)
 }

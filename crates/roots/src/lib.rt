@@ -2,8 +2,9 @@
 ghost use mathlib.Core.Path.{_≡_};
 ghost use Prim.Native.Nat.{_+_, _≤_};
 ghost use lib.ListN.{length};
+ghost use Rattle.decode.specs.Places.{entriesIn};
+ghost use Rattle.listing.specs.Listing.{EntriesListed, isRoot};
 ghost use Rattle.roots.specs.Marks.{Marked, Spanned, rootsIn};
-use tables::Entry;
 
 // Marks the sheets of a run. The answer is no where one of them is marked already.
 fn mark(marks: &mut [u8], first: usize, count: usize) -> bool
@@ -23,26 +24,22 @@ fn mark(marks: &mut [u8], first: usize, count: usize) -> bool
 }
 
 // Entries directly under the store share no sheet: their sheets are marked one after the other. T2 has no run past the store.
-pub fn roots_apart(es: [Entry; 256]) -> bool
-    ensures { λ r. ⌜ (Spanned es → r ≡ rootsIn es) ⌝ }
+pub fn roots_apart(image: &[u8], roots: &[u16]) -> bool
+    requires { ⌜ (length (now image) ≡ 11328) × EntriesListed isRoot (entriesIn (now image)) (now roots) ⌝ }
+    ensures { λ r. ⌜ (Spanned (entriesIn (now (image .entry))) → r ≡ rootsIn (entriesIn (now (image .entry)))) ⌝ }
 {
     let mut marks: [u8; 256] = [0; 256];
     let mut i: usize = 0;
-    while i < 256 {
-        let e = es[i];
+    while i < roots.len() {
+        let e = decode::entry_at(image, roots[i] as usize);
         i = i + 1;
-        if e.live {
-            let up = e.parent;
-            if up.number == 0 {
-                let first = e.first as usize;
-                let count = e.count as usize;
-                if 256 < first + count {
-                    return false;
-                }
-                if !mark(&mut marks, first, count) {
-                    return false;
-                }
-            }
+        let first = e.first as usize;
+        let count = e.count as usize;
+        if 256 < first + count {
+            return false;
+        }
+        if !mark(&mut marks, first, count) {
+            return false;
         }
     }
     true
