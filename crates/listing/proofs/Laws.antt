@@ -101,6 +101,10 @@ module _ (size start : ℕ) (want : ℕ → ℕ) (places : List ℕ) where
         rest p h (pass z) = inr (subst (λ (m : ℕ). getD (set l q x) m 0 ≡ want m) (sym (eqb-true p q z)) new)
         rest p h (fail z) = keep p z (so .rest p h)
 
+    -- as the code knows the place
+    pub filled-at : (at : ℕ) → at ≡ q → Filled size start want places (i + 1) (set l at x)
+    filled-at at a = subst (λ (m : ℕ). Filled size start want places (i + 1) (set l m x)) (sym a) filled-more
+
   -- the end: where the test fails, what is wanted is what the buffer began with
   pub filled-end : {A : Type 0} (d : A) (test : A → Bool) (xs : List A) (count : ℕ) → Listing d test xs size places count
       → ((p : ℕ) → p < size → test (getD xs p d) ≡ false → want p ≡ start)

@@ -1,70 +1,189 @@
--- T1 by first places: live numbers are distinct exactly where each stands in the first place that has it.
-use Prim.Native.Nat.{ℕ, _<_}
-use mathlib.Core.Path.{_≡_, refl, sym, ap, _∙_}
-use mathlib.Core.Bool.{true, false}
-use lib.Dec.{eqb}
-use lib.ListN.{length, getD}
-use borrow.Author.Tests.{eqb-true, eq-eqb}
+-- The numbers written down place by place: after i places each live ticket has passed, no two of a program have one number, and what is
+-- written is each one's number, 0 where there is none. So a number that its program's eight places do not have yet is new.
+use Prim.Native.Nat.{ℕ, _+_, _-_, _*_, _/_, _≤_, _<_}
+use native.Mathlib.Omega.{arith}
+use mathlib.Core.Path.{_≡_, refl, sym, ap, subst, _∙_}
+use mathlib.Core.Bool.{Bool, true, false, _&&_, cond}
+use mathlib.Core.List.{List, map}
+use lib.Dec.{eqb, ltb, leb}
+use lib.ListN.{length, getD, set, take, drop, replicate, length-set, length-map, length-drop, length-replicate, List·getD-map}
+use lib.Seq.{getD-set-same, getD-set-other, getD-take, getD-drop, length-take-le, ext-getD}
+use borrow.Author.Tests.{eqb-true, eqb-false, eq-eqb, ltb-true, ltb-false, leb-true, leb-false}
 use Rattle.lists.specs.Tests.{implies, between}
-use Rattle.lists.specs.Lists.{firstIndex, noTwo}
-use Rattle.lists.proofs.Tests.{and-l, and-r, and-intro, cannot-pass, no-true, implies-intro, implies-elim}
-use Rattle.lists.proofs.Everywhere.{all-intro, all-elim}
+use Rattle.lists.specs.Lists.{firstIndex}
+use Rattle.lists.proofs.Tests.{Case, pass, fail, case, contradiction, cannot-pass, and-l, and-r, implies-intro, between-low}
 use Rattle.lists.proofs.Search.{first-bound, find-passes}
-use Rattle.lists.proofs.Keyed.{Distinct, distinct-intro, distinct-test}
-use Rattle.tables.specs.declared.{Ticket.Ticket, Program.Program}
+use Rattle.lists.proofs.Reading.{same-all}
+use Rattle.lists.proofs.Loops.{so-far}
+use Rattle.tables.specs.declared.Ticket.{Ticket}
+use Rattle.tables.specs.Kinds.{isLive, isGrant}
 use Rattle.tables.specs.Names.{free}
-use Rattle.tables.specs.Lookup.{hasNumber}
-use Rattle.tables.specs.Order.{numbersOk}
-use Rattle.tables.proofs.Keys.{ticketKeys, ticketLaws}
-use Rattle.tables.specs.Kinds.{isLive}
+use Rattle.tables.proofs.KindLaws.{live-grant}
+use Rattle.index.specs.Places.{nameAt, numberOf}
+use Rattle.program_order.specs.Parts.{isNew, grantOk}
 
--- of the ticket at place i
-pub record NumberOk (q : Program) (i : ℕ) : Type 0 where
-  pub range : isLive (getD (q .tickets) i free .kind) ≡ true → between 1 (q .last) (getD (q .tickets) i free .number) ≡ true
-  pub first : isLive (getD (q .tickets) i free .kind) ≡ true → firstIndex (hasNumber (getD (q .tickets) i free .number)) (q .tickets) ≡ i
+-- ---- a number among others
+module _ (m : ℕ) (l : List ℕ) where
+  new-none : isNew m l ≡ true → (j : ℕ) → j < length l → getD l j 0 ≡ m → ⊥
+  unfolding isNew
+  new-none e j h q =
+      let b = first-bound (λ x. eqb x m) l 0 j h (eq-eqb (getD l j 0) m q) in
+      omega (arith, b, leb-true (length l) (firstIndex (λ x. eqb x m) l) e)
 
-module _ (q : Program) where
-  abbrev ticket : ℕ → Ticket
-  ticket i = getD (q .tickets) i free
+  -- where it stands
+  record Stands : Type 0 where
+    at : ℕ
+    low : at < length l
+    here : getD l at 0 ≡ m
 
-  firsts-distinct : ((i : ℕ) → i < length (q .tickets) → NumberOk q i) → Distinct ticketKeys (q .tickets)
-  firsts-distinct h i j a b l m e =
-      sym (h i a .first l) ∙ ap (λ (x : ℕ). firstIndex (hasNumber x) (q .tickets)) e ∙ h j b .first m
+  old-somewhere : isNew m l ≡ false → Stands
+  unfolding isNew
+  old-somewhere e =
+      let b : firstIndex (λ x. eqb x m) l < length l = omega (arith, leb-false (length l) (firstIndex (λ x. eqb x m) l) e) in
+      record { at = firstIndex (λ x. eqb x m) l; low = b; here = eqb-true _ m (find-passes (λ x. eqb x m) l 0 b) }
 
-  distinct-first : Distinct ticketKeys (q .tickets) → (i : ℕ) → i < length (q .tickets) → isLive (ticket i .kind) ≡ true
-      → firstIndex (hasNumber (ticket i .number)) (q .tickets) ≡ i
-  unfolding hasNumber
-  distinct-first d i h l =
-      let f = hasNumber (ticket i .number) in
-      let b : firstIndex f (q .tickets) < length (q .tickets) = first-bound f (q .tickets) free i h (and-intro l (eq-eqb (ticket i .number) (ticket i .number) refl)) in
-      let p : f (ticket (firstIndex f (q .tickets))) ≡ true = find-passes f (q .tickets) free b in
-      let k = ticket (firstIndex f (q .tickets)) in
-      d (firstIndex f (q .tickets)) i b h (and-l (isLive (k .kind)) _ p) l (eqb-true (k .number) (ticket i .number) (and-r (isLive (k .kind)) _ p))
+-- a ticket's number, where it is not 0
+number-live : (k : Ticket) → (numberOf k ≡ 0 → ⊥) → isLive (k .kind) ≡ true
+unfolding numberOf
+number-live k ne = go (case (isLive (k .kind)))
+  where
+    go : Case (isLive (k .kind)) → isLive (k .kind) ≡ true
+    go (pass e) = e
+    go (fail e) = absurd (ne (rw e))
 
-  pub numbers-pass : ((i : ℕ) → i < length (q .tickets) → NumberOk q i) → true ≡ numbersOk q
-  unfolding numbersOk
-  numbers-pass h =
-      sym
-      (and-intro (distinct-test ticketKeys ticketLaws (q .tickets) (firsts-distinct h))
-      (all-intro free (λ k. implies (isLive (k .kind)) (between 1 (q .last) (k .number))) (q .tickets)
-      (λ i b. implies-intro (isLive (ticket i .kind)) _ (h i b .range))))
+live-number : (k : Ticket) → isLive (k .kind) ≡ true → numberOf k ≡ k .number
+unfolding numberOf
+live-number k e = rw e
 
-  pub numbers-say : numbersOk q ≡ true → (i : ℕ) → i < length (q .tickets) → NumberOk q i
-  unfolding numbersOk
-  numbers-say e i h =
-      let d = distinct-intro ticketKeys ticketLaws (q .tickets) (and-l _ _ e) in
-      record {
-        range =
-            implies-elim (isLive (ticket i .kind)) _
-            (all-elim free (λ k. implies (isLive (k .kind)) (between 1 (q .last) (k .number))) (q .tickets)
-            (and-r (noTwo (λ k. isLive (k .kind)) (λ k other. eqb (k .number) (other .number)) (q .tickets)) _ e) i h);
-        first = distinct-first d i h;
-      }
+dead-number : (k : Ticket) → isLive (k .kind) ≡ false → numberOf k ≡ 0
+unfolding numberOf
+dead-number k e = rw e
 
-  -- a number out of range, or one that stood before
-  pub bad-range : (i : ℕ) → i < length (q .tickets) → isLive (ticket i .kind) ≡ true → between 1 (q .last) (ticket i .number) ≡ false → false ≡ numbersOk q
-  bad-range i h l e = sym (cannot-pass (numbersOk q) (λ p. no-true (sym e ∙ numbers-say p i h .range l)))
+module _ (tickets : List Ticket) (lasts : List ℕ) where
+  abbrev pub ticket : ℕ → Ticket
+  ticket p = getD tickets p free
 
-  pub bad-first : (i : ℕ) → i < length (q .tickets) → isLive (ticket i .kind) ≡ true
-      → (firstIndex (hasNumber (ticket i .number)) (q .tickets) ≡ i → ⊥) → false ≡ numbersOk q
-  bad-first i h l e = sym (cannot-pass (numbersOk q) (λ p. e (numbers-say p i h .first l)))
+  abbrev pub live : ℕ → Bool
+  live p = isLive (ticket p .kind)
+
+  -- T1's range, T2 and T4 at the place p
+  pub record PlaceOk (p : ℕ) : Type 0 where
+    pub range : live p ≡ true → between 1 (getD lasts (p / 8) 0) (ticket p .number) ≡ true
+    pub grant : grantOk (nameAt p (ticket p)) (ticket p) ≡ true
+
+  -- live tickets of one program, below i, have two numbers
+  abbrev pub Apart : ℕ → Type 0
+  Apart i = (p q : ℕ) → p < q → q < i → p / 8 ≡ q / 8 → live p ≡ true → live q ≡ true → ticket p .number ≡ ticket q .number → ⊥
+
+  pub record SoFar (i : ℕ) (numbers : List ℕ) : Type 0 where
+    pub long : length numbers ≡ 256
+    pub ok : (p : ℕ) → p < i → PlaceOk p
+    pub apart : Apart i
+    pub written : (p : ℕ) → p < i → getD numbers p 0 ≡ numberOf (ticket p)
+    pub rest : (p : ℕ) → i ≤ p → getD numbers p 0 ≡ 0
+
+  pub none-yet : (numbers : List ℕ) → numbers ≡ replicate {A = ℕ} 256 0 → SoFar 0 numbers
+  none-yet numbers e = record {
+    long = ap length e ∙ length-replicate {A = ℕ} 256 0;
+    ok = λ p h. absurd (omega (arith, h));
+    apart = λ p q g h. absurd (omega (arith, h));
+    written = λ p h. absurd (omega (arith, h));
+    rest = λ p h. ap (λ (l : List ℕ). getD l p 0) e ∙ same-all {A = ℕ} 256 0 p;
+  }
+
+  -- the whole, written
+  pub all-written : (i : ℕ) (numbers : List ℕ) → length tickets ≡ 256 → 256 ≤ i → SoFar i numbers → numbers ≡ map numberOf tickets
+  unfolding numberOf
+  all-written i numbers z h so =
+      ext-getD 0 numbers (map numberOf tickets) (so .long ∙ sym (length-map tickets numberOf ∙ z))
+      (λ p b. so .written p (omega (arith, b, so .long, h)) ∙ sym (at p))
+    where
+      at : (p : ℕ) → getD (map numberOf tickets) p 0 ≡ numberOf (ticket p)
+      at p = List·getD-map numberOf tickets p free
+
+  module _ (i : ℕ) (numbers : List ℕ) (so : SoFar i numbers) (low : i < 256) where
+    -- ---- a place without a ticket
+    dead-ok : live i ≡ false → PlaceOk i
+    unfolding grantOk
+    dead-ok e = record {
+      range = λ l. contradiction l e;
+      grant = implies-intro (isGrant (ticket i .kind)) _ (λ g. contradiction (live-grant (ticket i .kind) g) e);
+    }
+
+    pub dead-turn : live i ≡ false → SoFar (i + 1) numbers
+    dead-turn e = record {
+      long = so .long;
+      ok = so-far i (so .ok) (dead-ok e);
+      apart = λ p q g h r l m. more p q g h r l m (case (eqb q i));
+      written = so-far i (so .written) (so .rest i (omega arith) ∙ sym (dead-number (ticket i) e));
+      rest = λ p h. so .rest p (omega (arith, h));
+    }
+      where
+        more : (p q : ℕ) → p < q → q < i + 1 → p / 8 ≡ q / 8 → live p ≡ true → live q ≡ true → Case (eqb q i) → ticket p .number ≡ ticket q .number → ⊥
+        more p q g h r l m (pass z) = contradiction (subst (λ (x : ℕ). live x ≡ true) (eqb-true q i z) m) e
+        more p q g h r l m (fail z) = so .apart p q g (omega (arith, h, eqb-false q i z)) r l m
+
+    -- ---- its program's eight numbers
+    abbrev pub eight : List ℕ
+    eight = take 8 (drop (8 * (i / 8)) numbers)
+
+    eight-long : length eight ≡ 8
+    eight-long = length-take-le 8 (drop (8 * (i / 8)) numbers) (omega (arith, length-drop (8 * (i / 8)) numbers, so .long, low))
+
+    eight-at : (j : ℕ) → j < 8 → getD eight j 0 ≡ getD numbers (8 * (i / 8) + j) 0
+    eight-at j h = getD-take 8 (drop (8 * (i / 8)) numbers) j 0 h ∙ getD-drop (8 * (i / 8)) numbers j 0
+
+    -- what the code asks of the number: it knows the eight as a part, and the ticket and its program's last number by themselves
+    pub number-asked : (k : Ticket) → k ≡ ticket i → (last : ℕ) → last ≡ getD lasts (i / 8) 0 → (b : Bool)
+        → b ≡ (between 1 last (k .number) && isNew (k .number) (take (8 * (i / 8) + 8 - 8 * (i / 8)) (drop (8 * (i / 8)) numbers)))
+        → b ≡ (between 1 (getD lasts (i / 8) 0) (ticket i .number) && isNew (ticket i .number) eight)
+    number-asked k e last f b r =
+        let w : 8 * (i / 8) + 8 - 8 * (i / 8) ≡ 8 = omega arith in
+        r ∙ (λ j. between 1 (f j) (e j .number) && isNew (e j .number) (take (w j) (drop (8 * (i / 8)) numbers)))
+
+    module _ (l : live i ≡ true) where
+      -- ---- a ticket whose number is new
+      module _ (new : isNew (ticket i .number) eight ≡ true) where
+        unlike : (p : ℕ) → p < i → p / 8 ≡ i / 8 → live p ≡ true → ticket p .number ≡ ticket i .number → ⊥
+        unlike p h r m e =
+            let j : ℕ = p - 8 * (i / 8) in
+            let s : 8 * (i / 8) + j ≡ p = omega (arith, r) in
+            let b : j < 8 = omega (arith, r) in
+            new-none (ticket i .number) eight new j (omega (arith, b, eight-long))
+            (eight-at j b ∙ ap (λ (x : ℕ). getD numbers x 0) s ∙ so .written p h ∙ live-number (ticket p) m ∙ e)
+
+        pub live-turn : PlaceOk i → (x : ℕ) → x ≡ ticket i .number → SoFar (i + 1) (set numbers i x)
+        live-turn ok x e = record {
+          long = length-set numbers i x ∙ so .long;
+          ok = so-far i (so .ok) ok;
+          apart = λ p q g h r a b. more p q g h r a b (case (eqb q i));
+          written = so-far i before (getD-set-same numbers i x 0 (omega (arith, so .long, low)) ∙ e ∙ sym (live-number (ticket i) l));
+          rest = λ p h. getD-set-other numbers i p x 0 (λ z. omega (arith, z, h)) ∙ so .rest p (omega (arith, h));
+        }
+          where
+            before : (p : ℕ) → p < i → getD (set numbers i x) p 0 ≡ numberOf (ticket p)
+            before p h = getD-set-other numbers i p x 0 (λ z. omega (arith, z, h)) ∙ so .written p h
+
+            more : (p q : ℕ) → p < q → q < i + 1 → p / 8 ≡ q / 8 → live p ≡ true → live q ≡ true → Case (eqb q i) → ticket p .number ≡ ticket q .number → ⊥
+            more p q g h r a b (pass z) =
+                let y : q ≡ i = eqb-true q i z in
+                λ s. unlike p (omega (arith, g, y)) (r ∙ ap (λ (m : ℕ). m / 8) y) a (s ∙ ap (λ (m : ℕ). ticket m .number) y)
+            more p q g h r a b (fail z) = so .apart p q g (omega (arith, h, eqb-false q i z)) r a b
+
+      -- ---- a ticket whose number is not new
+      pub old-number : isNew (ticket i .number) eight ≡ false → 1 ≤ ticket i .number → Apart 256 → ⊥
+      old-number old pos apart =
+          let s = old-somewhere (ticket i .number) eight old in
+          let b : s .at < 8 = omega (arith, s .low, eight-long) in
+          at (8 * (i / 8) + s .at) (omega (arith, b)) (sym (eight-at (s .at) b) ∙ s .here)
+        where
+          at : (p : ℕ) → p / 8 ≡ i / 8 → getD numbers p 0 ≡ ticket i .number → ⊥
+          at p r e = go (case (ltb p i))
+            where
+              go : Case (ltb p i) → ⊥
+              go (pass z) =
+                  let h : p < i = ltb-true p i z in
+                  let w : numberOf (ticket p) ≡ ticket i .number = sym (so .written p h) ∙ e in
+                  let m : live p ≡ true = number-live (ticket p) (λ y. omega (arith, y, w, pos)) in
+                  apart p i h low r m l (sym (live-number (ticket p) m) ∙ w)
+              go (fail z) = omega (arith, so .rest p (ltb-false p i z), e, pos)

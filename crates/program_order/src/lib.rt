@@ -1,52 +1,30 @@
-// T1, T2 and T4: numbers, spans and dock names, program by program.
+// T1, T2 and T4: numbers, spans and dock names, place by place. On the way the numbers are written down, as an index of the tickets.
+ghost use Prim.Native.Nat.{_≤_};
 ghost use mathlib.Core.Path.{_≡_};
-ghost use mathlib.Core.Bool.{_&&_};
+ghost use mathlib.Core.Bool.{true, _&&_};
+ghost use mathlib.Core.List.{map};
+ghost use lib.Dec.{eqb, leb};
+ghost use lib.ListN.{length, replicate};
+ghost use Rattle.lists.specs.Tests.{between};
 ghost use Rattle.lists.specs.Lists.{firstIndex};
-ghost use Rattle.tables.specs.Lookup.{hasNumber};
-ghost use Rattle.tables.specs.Order.{numbersOk, t1, t2, t4};
-ghost use Rattle.program_order.specs.Parts.{grantOk, grantsOk, padOk};
+ghost use Rattle.tables.specs.declared.Tables.{Tables};
+ghost use Rattle.tables.specs.Lookup.{Sized};
+ghost use Rattle.tables.specs.Order.{t1, t2, t4};
+ghost use Rattle.index.specs.Places.{Flattened, numberOf};
+ghost use Rattle.decode.specs.Places.{ticketsIn, lastsIn};
+ghost use Rattle.program_order.specs.Parts.{grantOk, isNew};
 use tables::Name;
-use tables::Pad;
-use tables::Program;
-use tables::Tables;
 use tables::Ticket;
 
-// The first place of a live ticket with the number, or 8.
-fn first_place(q: Program, number: u16) -> usize
-    ensures { λ r. ⌜ r ≡ firstIndex (hasNumber number) (q .tickets) ⌝ }
+// T1: a live number from 1 to the last one given, and none of its program's so far.
+fn number_ok(numbers: &[u16], last: u16, number: u16) -> bool
+    ensures { λ r. ⌜ r ≡ (between 1 last number && isNew number (now (numbers .entry))) ⌝ }
 {
-    let mut i: usize = 0;
-    while i < 8 {
-        let k = q.tickets[i];
-        if k.has_number(number) {
-            return i;
-        }
-        i = i + 1;
+    if !rules::is_between(1, last, number) {
+        return false;
     }
-    i
-}
-
-// T1: live numbers from 1 to the last one given, each in the first place that has it.
-fn numbers_ok(q: Program) -> bool
-    ensures { λ r. ⌜ r ≡ numbersOk q ⌝ }
-{
-    let mut i: usize = 0;
-    while i < 8 {
-        let k = q.tickets[i];
-        let kind = k.kind;
-        let at = i;
-        i = i + 1;
-        if kind.is_live() {
-            if !rules::is_between(1, q.last, k.number) {
-                return false;
-            }
-            let first = first_place(q, k.number);
-            if first != at {
-                return false;
-            }
-        }
-    }
-    true
+    let first = chains::index_of(numbers, number);
+    numbers.len() <= first
 }
 
 // T2 and T4, of one ticket.
@@ -67,53 +45,34 @@ fn grant_ok(n: Name, k: Ticket) -> bool
     d.is(n)
 }
 
-fn grants_ok(q: Program, pad: u16, program: u16) -> bool
-    ensures { λ r. ⌜ r ≡ grantsOk pad program q ⌝ }
+// `numbers` is lent with 0 at each place; where the answer is yes, it then has the number of each live ticket.
+pub fn programs_ok(image: &[u8], numbers: &mut [u16]) -> bool
+    requires { ⌜ (length (now image) ≡ 11328) × (now numbers ≡ replicate 256 0) ⌝ }
+    ensures { λ r. ⌜ ((t : Tables) → Sized t → Flattened t (ticketsIn (now (image .entry))) (lastsIn (now (image .entry))) → r ≡ (t1 t && t2 t && t4 t)) × (r ≡ true → now (numbers .exit) ≡ map numberOf (ticketsIn (now (image .entry)))) ⌝ }
 {
     let mut i: usize = 0;
-    while i < 8 {
-        let k = q.tickets[i];
+    while i < 256 {
+        let at = i;
+        let k = decode::ticket_at(image, at);
         i = i + 1;
-        let n = Name {
-            pad: pad,
-            program: program,
-            number: k.number,
-        };
-        if !grant_ok(n, k) {
-            return false;
-        }
-    }
-    true
-}
-
-fn pad_ok(p: Pad, pad: u16) -> bool
-    ensures { λ r. ⌜ r ≡ padOk pad p ⌝ }
-{
-    let mut b: u16 = 0;
-    while b < 8 {
-        let q = p.programs[b as usize];
-        let program = b;
-        b = b + 1;
-        if !numbers_ok(q) {
-            return false;
-        }
-        if !grants_ok(q, pad, program) {
-            return false;
-        }
-    }
-    true
-}
-
-pub fn programs_ok(t: Tables) -> bool
-    ensures { λ r. ⌜ r ≡ (t1 t && t2 t && t4 t) ⌝ }
-{
-    let mut a: u16 = 0;
-    while a < 4 {
-        let p = t.pads[a as usize];
-        let pad = a;
-        a = a + 1;
-        if !pad_ok(p, pad) {
-            return false;
+        let kind = k.kind;
+        if kind.is_live() {
+            let program = at / 8;
+            let from = 8 * program;
+            let to = from + 8;
+            let last = decode::last_at(image, program);
+            if !number_ok(&numbers[from..to], last, k.number) {
+                return false;
+            }
+            let n = Name {
+                pad: (at / 64) as u16,
+                program: (at / 8 % 8) as u16,
+                number: k.number,
+            };
+            if !grant_ok(n, k) {
+                return false;
+            }
+            numbers[at] = k.number;
         }
     }
     true

@@ -1,56 +1,64 @@
+-- After i turns the first i children have passed, and the places of their parents are written.
 use Prim.Native.Nat.{ℕ, _-_, _≤_, _<_}
 use native.Mathlib.Omega.{arith}
-use mathlib.Core.Path.{_≡_, sym, _∙_}
+use mathlib.Core.Path.{_≡_, sym, ap, subst, _∙_}
 use mathlib.Core.Bool.{true}
-use lib.ListN.{getD}
-use borrow.Author.Tests.{not-true, not-false}
+use lib.ListN.{length, getD, length-replicate}
 use borrow.Author.Needs.{needs}
+use borrow.Author.Tests.{not-true, not-false}
 use Rattle.lists.proofs.Tests.{no-true}
-use Rattle.lists.proofs.Everywhere.{allAt-intro}
-use Rattle.lists.proofs.Loops.{so-far, allAt-broken}
-use Rattle.lists.proofs.Laid.{Laid, one-more}
+use Rattle.lists.proofs.Loops.{so-far}
+use Rattle.tables.specs.Kinds.{isChild}
 use Rattle.tables.specs.Names.{free}
-use Rattle.index.proofs.Laying.{flat-long}
+use Rattle.decode.specs.Places.{ticketsIn}
+use Rattle.decode.proofs.Places.{tickets-long}
+use Rattle.listing.proofs.Laws.{listed-allAt, listed-broken, Filled, filled-none, filled-at, filled-end}
 use Rattle.child_order.specs.Parts.{childOk, childrenOk}
 use Rattle.child_order.proofs.Children.{upOf, no-child, no-child-up, no-parent, by-parent, parent-up}
 use Rattle.child_order.proofs.children_ok.Statement.{statement}
 use Rattle.child_order.proofs.children_ok.Tie as tie
 
 abbrev Inv-loop : tie.InvT-loop
-Inv-loop numbers up₀ f i₀ up i =
-    (i ≤ 256)
-    × (((j : ℕ) → j < i → childOk (f .tickets) numbers j (getD (f .tickets) j free) ≡ true)
-    × Laid 0 256 (λ j. upOf numbers (getD (f .tickets) j free)) i up)
+Inv-loop image numbers children up₀ i₀ up i =
+    (i ≤ length children)
+    × (((j : ℕ) → j < i → childOk (ticketsIn image) numbers (getD children j 0) (getD (ticketsIn image) (getD children j 0) free) ≡ true)
+    × Filled 256 256 (λ p. upOf numbers (getD (ticketsIn image) p free)) children i up)
 
 abbrev μ-loop : tie.MeasureT-loop
-μ-loop numbers up₀ f i₀ up i = 256 - i
+μ-loop image numbers children up₀ i₀ up i = length children - i
 
 loop-holds : tie.Need-loop-holds Inv-loop μ-loop
 loop-holds c = (
   omega arith,
-  ((λ j h. absurd (omega (arith, h))), record { long = c .before .before .pre .1; same = λ j h. absurd (omega (arith, h)) }),
+  (
+    (λ j h. absurd (omega (arith, h))),
+    subst (Filled 256 256 _ _ 0) (sym (c .before .before .before .before .pre .1 .1 .1)) (filled-none 256 256 _ _),
+  ),
 )
 
-mul-k : tie.Need-mul-k Inv-loop μ-loop
-mul-k c = search needs
+mul-wide : tie.Need-mul-wide Inv-loop μ-loop
+mul-wide c = search needs
 
-element-copy-out-k : tie.Need-element-copy-out-k Inv-loop μ-loop
-element-copy-out-k c = search needs
+shared-slice-read-wide : tie.Need-shared-slice-read-wide Inv-loop μ-loop
+shared-slice-read-wide c = search needs
+
+wide-requires : tie.Need-wide-requires Inv-loop μ-loop
+wide-requires c κs = search needs
 
 add-i : tie.Need-add-i Inv-loop μ-loop
 add-i c = search needs
 
-is-child-requires : tie.Need-is-child-requires Inv-loop μ-loop
-is-child-requires c κs = search needs
+ticket-at-requires : tie.Need-ticket-at-requires Inv-loop μ-loop
+ticket-at-requires c κs = (
+  c .before .before .before .before .before .before .before .before .pre .0,
+  omega (arith, c .wide .ensures, c .before .before .before .before .before .before .before .before .pre .1 .1 .0 .low (c .before .before .before .loop .i) (omega arith)),
+)
 
 place-of-requires : tie.Need-place-of-requires Inv-loop μ-loop
-place-of-requires c κs = search needs
+place-of-requires c κs = c .before .before .before .before .before .before .before .before .before .before .pre .1 .0
 
 same-length : tie.Need-same-length Inv-loop μ-loop
-same-length c =
-    let c7 = c .before .before .before .before .before .before .before in
-    let c10 = c7 .before .before .before in
-    omega (arith, c7 .loop .inv .1 .1 .long, c10 .pre .1)
+same-length c = omega (arith, c .before .before .before .before .before .before .before .loop .inv .1 .1 .long, ap length (c .before .before .before .before .before .before .before .before .before .before .before .before .pre .1 .1 .1), length-replicate {A = ℕ} 256 256)
 
 returns : tie.Need-returns Inv-loop μ-loop
 unfolding childrenOk
@@ -58,123 +66,93 @@ returns c =
     let c3 = c .before .before .before in
     let c4 = c3 .before in
     let c7 = c4 .before .before .before in
-    let c10 = c7 .before .before .before in
-    let e = allAt-broken free (childOk (c10 .args .t1 .tickets) (c10 .args .numbers .now)) (c10 .args .t1 .tickets) (c7 .loop .i)
-    (omega (arith, flat-long (c10 .args .t1) (_, c10 .good .0)))
-    (no-parent (c10 .args .t1 .tickets) (c10 .args .numbers .now) (c7 .loop .i) (getD (c10 .args .t1 .tickets) (c7 .loop .i) free)
-    (sym (c4 .is-child .ensures) ∙ c3 .if1 .taken) _ (c .before .place-of .ensures) (c .if2 .taken)) in
-    (e, λ q. no-true q)
+    let s = c7 .before .before .before .before .before in
+    let ks = ticketsIn (s .args .image .now) in
+    let q = getD (s .args .children .now) (c7 .loop .i) 0 in
+    let child = s .pre .1 .1 .0 .passes (c7 .loop .i) (omega arith) in
+    let e = listed-broken free (λ k. isChild (k .kind)) ks 256 _ _ (s .pre .1 .1 .0) (childOk ks (s .args .numbers .now)) (tickets-long (s .args .image .now)) (c7 .loop .i) (omega arith)
+    (no-parent ks (s .args .numbers .now) q _ (c4 .wide .ensures) _ (c3 .ticket-at .ensures) child _ (c .before .place-of .ensures) (c .if1 .taken)) in
+    (e, λ z. no-true z)
 
-mul-parent : tie.Need-mul-parent Inv-loop μ-loop
-mul-parent c = search needs
+ticket-at-requires-2 : tie.Need-ticket-at-requires-2 Inv-loop μ-loop
+ticket-at-requires-2 c κs = (c .before .before .before .before .before .before .before .before .before .before .before .before .pre .0, omega (arith, c .if1 .left))
 
-element-copy-out-parent : tie.Need-element-copy-out-parent Inv-loop μ-loop
-element-copy-out-parent c = search needs
-
-cast-t24 : tie.Need-cast-t24 Inv-loop μ-loop
-cast-t24 c = search needs
+cast-t15 : tie.Need-cast-t15 Inv-loop μ-loop
+cast-t15 c = omega (arith, c .before .before .before .before .before .wide .ensures, c .before .before .before .before .before .before .before .before .before .before .before .before .before .pre .1 .1 .0 .low (c .before .before .before .before .before .before .before .before .loop .i) (omega arith))
 
 cast-up : tie.Need-cast-up Inv-loop μ-loop
-cast-up c = search needs
+cast-up c = omega (arith, c .before .before .before .before .before .wide .ensures, c .before .before .before .before .before .before .before .before .before .before .before .before .before .pre .1 .1 .0 .low (c .before .before .before .before .before .before .before .before .loop .i) (omega arith))
 
 parent-ok-requires : tie.Need-parent-ok-requires Inv-loop μ-loop
 parent-ok-requires c κs = search needs
 
 same-length-2 : tie.Need-same-length-2 Inv-loop μ-loop
-same-length-2 c =
-    let c10 = c .before .before .before .before .before .before .before .before .before .before in
-    let c13 = c10 .before .before .before in
-    omega (arith, c10 .loop .inv .1 .1 .long, c13 .pre .1)
+same-length-2 c = omega (arith, c .before .before .before .before .before .before .before .before .before .before .loop .inv .1 .1 .long, ap length (c .before .before .before .before .before .before .before .before .before .before .before .before .before .before .before .pre .1 .1 .1), length-replicate {A = ℕ} 256 256)
 
 returns-2 : tie.Need-returns-2 Inv-loop μ-loop
 unfolding childrenOk
 returns-2 c =
-    let c3 = c .before .before .before in
-    let c4 = c3 .before in
-    let c6 = c4 .before .before in
+    let c6 = c .before .before .before .before .before .before in
     let c7 = c6 .before in
     let c10 = c7 .before .before .before in
-    let c13 = c10 .before .before .before in
-    let e = allAt-broken free (childOk (c13 .args .t1 .tickets) (c13 .args .numbers .now)) (c13 .args .t1 .tickets) (c10 .loop .i)
-    (omega (arith, flat-long (c13 .args .t1) (_, c13 .good .0)))
-    (sym
-    (by-parent (c13 .args .t1 .tickets) (c13 .args .numbers .now) (c10 .loop .i) (getD (c13 .args .t1 .tickets) (c10 .loop .i) free)
-    (sym (c7 .is-child .ensures) ∙ c6 .if1 .taken) _ (c4 .place-of .ensures) (omega (arith, c3 .if2 .left))) ∙ sym
-    (c .before .parent-ok .ensures) ∙ not-true _ (c .if3 .taken)) in
-    (e, λ q. no-true q)
+    let s = c10 .before .before .before .before .before in
+    let ks = ticketsIn (s .args .image .now) in
+    let q = getD (s .args .children .now) (c10 .loop .i) 0 in
+    let child = s .pre .1 .1 .0 .passes (c10 .loop .i) (omega arith) in
+    let e = listed-broken free (λ k. isChild (k .kind)) ks 256 _ _ (s .pre .1 .1 .0) (childOk ks (s .args .numbers .now)) (tickets-long (s .args .image .now)) (c10 .loop .i) (omega arith)
+    (by-parent ks (s .args .numbers .now) q _ (c7 .wide .ensures) _ (c6 .ticket-at .ensures) child _ (c .before .before .before .before .place-of .ensures) (omega (arith, c .before .before .before .if1 .left)) _
+    (c .before .before .ticket-at2 .ensures) _ (c .before .parent-ok .ensures) ∙ not-true _ (c .if2 .taken)) in
+    (e, λ z. no-true z)
 
 cast-up-2 : tie.Need-cast-up-2 Inv-loop μ-loop
 cast-up-2 c = search needs
 
 mul-up : tie.Need-mul-up Inv-loop μ-loop
-mul-up c = search needs
+mul-up c = omega (arith, c .before .before .before .before .before .before .before .wide .ensures, c .before .before .before .before .before .before .before .before .before .before .before .before .before .before .before .pre .1 .1 .0 .low (c .before .before .before .before .before .before .before .before .before .before .loop .i) (omega arith))
 
 slice-write-up : tie.Need-slice-write-up Inv-loop μ-loop
-slice-write-up c = omega (arith, c .before .before .before .before .before .before .before .before .before .before .loop .inv .1 .1 .long)
+slice-write-up c = omega (arith, c .before .before .before .before .before .before .before .before .before .before .loop .inv .1 .1 .long, c .before .before .before .before .before .before .before .wide .ensures, c .before .before .before .before .before .before .before .before .before .before .before .before .before .before .before .pre .1 .1 .0 .low (c .before .before .before .before .before .before .before .before .before .before .loop .i) (omega arith))
 
 loop-less : tie.Need-loop-less Inv-loop μ-loop
 loop-less c = search needs
 
 loop-again : tie.Need-loop-again Inv-loop μ-loop
 loop-again c =
-    let c3 = c .before .before .before in
-    let c4 = c3 .before in
-    let c6 = c4 .before .before in
+    let c6 = c .before .before .before .before .before .before in
     let c7 = c6 .before in
     let c10 = c7 .before .before .before in
-    let c13 = c10 .before .before .before in (
+    let s = c10 .before .before .before .before .before in
+    let ks = ticketsIn (s .args .image .now) in
+    let q = getD (s .args .children .now) (c10 .loop .i) 0 in
+    let child = s .pre .1 .1 .0 .passes (c10 .loop .i) (omega arith) in
+    let p = c .before .before .before .before .place-of .ensures in (
       omega arith,
       (
         so-far (c10 .loop .i) (c10 .loop .inv .1 .0)
-            (sym
-            (by-parent (c13 .args .t1 .tickets) (c13 .args .numbers .now) (c10 .loop .i) (getD (c13 .args .t1 .tickets) (c10 .loop .i) free)
-            (sym (c7 .is-child .ensures) ∙ c6 .if1 .taken) _ (c4 .place-of .ensures) (omega (arith, c3 .if2 .left))) ∙ sym
-            (c .before .parent-ok .ensures) ∙ not-false _ (c .if3 .left)),
-        one-more 0 256 _ (c10 .loop .i) _ _ (c10 .loop .inv .1 .1)
-            (omega arith)
-            (parent-up (c13 .args .t1 .tickets) (c13 .args .numbers .now) (c10 .loop .i) (getD (c13 .args .t1 .tickets) (c10 .loop .i) free)
-            (sym (c7 .is-child .ensures) ∙ c6 .if1 .taken) _ (c4 .place-of .ensures)),
-      ),
-    )
-
-mul-up-2 : tie.Need-mul-up-2 Inv-loop μ-loop
-mul-up-2 c = search needs
-
-slice-write-up-2 : tie.Need-slice-write-up-2 Inv-loop μ-loop
-slice-write-up-2 c = omega (arith, c .before .before .before .before .loop .inv .1 .1 .long)
-
-loop-less-2 : tie.Need-loop-less-2 Inv-loop μ-loop
-loop-less-2 c = search needs
-
-loop-again-2 : tie.Need-loop-again-2 Inv-loop μ-loop
-loop-again-2 c =
-    let c1 = c .before in
-    let c4 = c1 .before .before .before in
-    let c7 = c4 .before .before .before in (
-      omega arith,
-      (
-        so-far (c4 .loop .i) (c4 .loop .inv .1 .0)
-            (no-child (c7 .args .t1 .tickets) (c7 .args .numbers .now) (c4 .loop .i) (getD (c7 .args .t1 .tickets) (c4 .loop .i) free)
-            (sym (c1 .is-child .ensures) ∙ c .if1 .left)),
-        one-more 0 256 _ (c4 .loop .i) _ _ (c4 .loop .inv .1 .1) (omega arith)
-            (no-child-up (c7 .args .t1 .tickets) (c7 .args .numbers .now) (c4 .loop .i) (getD (c7 .args .t1 .tickets) (c4 .loop .i) free)
-            (sym (c1 .is-child .ensures) ∙ c .if1 .left)),
+            (by-parent ks (s .args .numbers .now) q _ (c7 .wide .ensures) _ (c6 .ticket-at .ensures) child _ p (omega (arith, c .before .before .before .if1 .left)) _
+            (c .before .before .ticket-at2 .ensures) _ (c .before .parent-ok .ensures) ∙ not-false _ (c .if2 .left)),
+        filled-at 256 256 (λ m. upOf (s .args .numbers .now) (getD ks m free)) (s .args .children .now) (c10 .loop .i) (c10 .loop .up) (c10 .loop .inv .1 .1)
+            (s .pre .1 .1 .0 .low (c10 .loop .i) (omega arith)) _
+            (parent-up ks (s .args .numbers .now) q _ (c7 .wide .ensures) _ (c6 .ticket-at .ensures) child _ p) _ (c7 .wide .ensures),
       ),
     )
 
 same-length-3 : tie.Need-same-length-3 Inv-loop μ-loop
-same-length-3 c = omega (arith, c .before .loop .inv .1 .1 .long, c .before .before .before .before .pre .1)
+same-length-3 c = omega (arith, c .before .loop .inv .1 .1 .long, ap length (c .before .before .before .before .before .before .pre .1 .1 .1), length-replicate {A = ℕ} 256 256)
 
 returns-3 : tie.Need-returns-3 Inv-loop μ-loop
 unfolding childrenOk
 returns-3 c =
-    let c1 = c .before in
-    let c4 = c1 .before .before .before in (
+    let s = c .before .before .before .before .before .before in
+    let ks = ticketsIn (s .args .image .now) in
+    let listing = s .pre .1 .1 .0 in (
       sym
-          (allAt-intro free (childOk (c4 .args .t1 .tickets) (c4 .args .numbers .now)) (c4 .args .t1 .tickets)
-          (λ j h. c1 .loop .inv .1 .0 j (omega (arith, h, flat-long (c4 .args .t1) (_, c4 .good .0))))),
-      λ q. record
-          { long = c1 .loop .inv .1 .1 .long; at = λ p h. c1 .loop .inv .1 .1 .same p (omega arith) },
+          (listed-allAt free (λ k. isChild (k .kind)) ks 256 _ _ listing (childOk ks (s .args .numbers .now)) (tickets-long (s .args .image .now))
+          (λ j h. c .before .loop .inv .1 .0 j (omega arith)) (λ q k e. no-child (s .args .numbers .now) k e ks q)),
+      λ z. record {
+        long = c .before .loop .inv .1 .1 .long;
+        at = filled-end 256 256 _ _ free (λ k. isChild (k .kind)) ks _ listing (λ p h e. no-child-up (s .args .numbers .now) (getD ks p free) e) (c .before .loop .i) _ (omega arith) (c .before .loop .inv .1 .1);
+      },
     )
 
 pub children-ok-spec : {M : Type 1} → statement M
@@ -184,16 +162,16 @@ children-ok-spec =
     Inv-loop
     μ-loop
     loop-holds
-    mul-k
-    element-copy-out-k
+    mul-wide
+    shared-slice-read-wide
+    wide-requires
     add-i
-    is-child-requires
+    ticket-at-requires
     place-of-requires
     same-length
     returns
-    mul-parent
-    element-copy-out-parent
-    cast-t24
+    ticket-at-requires-2
+    cast-t15
     cast-up
     parent-ok-requires
     same-length-2
@@ -203,9 +181,5 @@ children-ok-spec =
     slice-write-up
     loop-less
     loop-again
-    mul-up-2
-    slice-write-up-2
-    loop-less-2
-    loop-again-2
     same-length-3
     returns-3)
