@@ -1,34 +1,50 @@
-// Tables in order: T1 to T6, and the test beside them.
+// Tables in order: T1 to T6, and the test beside them. The tables are read from their image where it lies: nothing is copied.
 ghost use Prim.Native.Nat.{_<_};
 ghost use mathlib.Core.Path.{_≡_};
-ghost use Rattle.tables.specs.Kinds.{isChild};
-ghost use Rattle.tables.specs.Lookup.{ticketIn};
+ghost use lib.ListN.{length};
 ghost use Rattle.tables.specs.Order.{inOrder, noFarChild};
+ghost use Rattle.image.specs.Image.{decode};
 ghost use Rattle.order.specs.Far.{isFar};
-use tables::Program;
 use tables::Tables;
 use tables::Ticket;
 
+// Bytes of the tables' image.
+const TABLES: usize = 11328;
+
 // T1, T2 and T4 first: they need nothing but the programs, one by one. T1 makes the numbers an index of the tickets for T3, T5 and T6,
-// and T5 notes for T6 where the entries are.
+// and T5 notes for T6 where the entries are. T3, T5 and T6 look only at the places that are listed for them.
+pub fn image_in_order(image: &[u8]) -> bool
+    requires { ⌜ length (now image) ≡ 11328 ⌝ }
+    ensures { λ r. ⌜ r ≡ inOrder (decode (now (image .entry))) ⌝ }
+{
+    let mut numbers = [0u16; 256];
+    if !program_order::programs_ok(image, &mut numbers) {
+        return false;
+    }
+    let mut taken = [0u16; 256];
+    let mut children = [0u16; 256];
+    let mut recalls = [0u16; 256];
+    let n = listing::list_tickets(image, &mut taken, &mut children, &mut recalls);
+    let a = n.taken;
+    let b = n.children;
+    let c = n.recalls;
+    if !child_order::chains_ok(image, &numbers, &children[..b]) {
+        return false;
+    }
+    let mut notes = [256u16; 256];
+    if !entry_order::entries_ok(image, &numbers, &taken[..a], &mut notes) {
+        return false;
+    }
+    recall_order::recalls_ok(image, &numbers, &notes, &children[..b], &recalls[..c])
+}
+
+// The same of tables by value.
 pub fn in_order(t: Tables) -> bool
     ensures { λ r. ⌜ r ≡ inOrder t ⌝ }
 {
-    if !program_order::programs_ok(t) {
-        return false;
-    }
-    let f = index::flatten(t);
-    let mut numbers = [0u16; 256];
-    index::write_numbers(f, &mut numbers);
-    if !child_order::chains_ok(f, &numbers) {
-        return false;
-    }
-    let es = t.entries;
-    let mut notes = [256u16; 256];
-    if !entry_order::entries_ok(f, es, &numbers, &mut notes) {
-        return false;
-    }
-    recall_order::recalls_ok(f, es, &numbers, &notes)
+    let mut image = [0u8; TABLES];
+    encode::tables(&mut image, t);
+    image_in_order(&image)
 }
 
 // ---- beside T1 to T6
@@ -52,30 +68,22 @@ fn is_far(place: usize, k: Ticket) -> bool
     target.pad != (place / 64) as u16
 }
 
-fn has_child(q: Program, number: u16) -> bool
-    ensures { λ r. ⌜ r ≡ isChild (ticketIn (q .tickets) number .kind) ⌝ }
-{
-    let k = pads::find(q, number);
-    let kind = k.kind;
-    kind.is_child()
-}
-
 // No recall names a live child of another pad. Tables that are not in order may have numbers twice, and live tickets numbered 0: each
 // target is looked for in its program.
-pub fn no_far_child(t: Tables) -> bool
-    ensures { λ r. ⌜ r ≡ noFarChild t ⌝ }
+pub fn no_far_child(image: &[u8]) -> bool
+    requires { ⌜ length (now image) ≡ 11328 ⌝ }
+    ensures { λ r. ⌜ r ≡ noFarChild (decode (now (image .entry))) ⌝ }
 {
-    let f = index::flatten(t);
     let mut i: usize = 0;
     while i < 256 {
-        let k = f.tickets[i];
         let at = i;
+        let k = decode::ticket_at(image, at);
         i = i + 1;
         if is_far(at, k) {
             let target = k.other;
-            let p = t.pads[target.pad as usize];
-            let q = p.programs[target.program as usize];
-            if has_child(q, target.number) {
+            let found = lookup::ticket(image, target);
+            let kind = found.kind;
+            if kind.is_child() {
                 return false;
             }
         }

@@ -37,8 +37,7 @@ loop-less c = search needs
 loop-again : tie.Need-loop-again Inv-loop μ-loop
 loop-again c =
     let s = c .before .before .before .before .before .before .args in
-    let l = c .before .before .before .before .loop in
-    (
+    let l = c .before .before .before .before .loop in (
       omega arith,
       entry-miss (s .image .now) (s .n) (l .i) (omega arith) _ (c .before .before .entry-at .ensures) (sym (c .before .is-named .ensures) ∙ c .if1 .left) (l .inv .1),
     )

@@ -68,8 +68,7 @@ loop-less c = search needs
 loop-again : tie.Need-loop-again Inv-loop μ-loop
 loop-again c =
     let s = c .before .before .before .before .before .before .before .before .before .before .before .before .args in
-    let l = c .before .before .before .before .loop in
-    (
+    let l = c .before .before .before .before .loop in (
       omega arith,
       λ a b. ticket-miss (s .image .now) (s .n) a b (l .i) _ (omega arith) (omega (arith, c .before .before .before .before .before .before .wide .ensures, c .before .before .before .before .before .wide2 .ensures)) _ (c .before .before .ticket-at .ensures)
           (sym (c .before .has-number .ensures) ∙ c .if3 .left) (l .inv .1 a b),
