@@ -58,7 +58,7 @@ key-cases numbers k = by-kind (case (isRecall (k .kind)))
 
 module _ (numbers : List ℕ) (k : Ticket) where
   -- a key that is not 256 is a recall's
-  pub key-is-recall : (targetKey numbers k ≡ 256 → ⊥) → isRecall (k .kind) ≡ true
+  key-is-recall : (targetKey numbers k ≡ 256 → ⊥) → isRecall (k .kind) ≡ true
   key-is-recall ne = go (key-cases numbers k)
     where
       go : KeyOf numbers k → isRecall (k .kind) ≡ true
