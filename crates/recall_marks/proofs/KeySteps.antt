@@ -1,21 +1,21 @@
--- Keys by cases, as the code computes them, and children's marks as far as the loop has come.
+-- Keys by cases, as the code computes them; the keys of the listed recalls written one after the other; a child's mark.
 use Prim.Native.Nat.{ℕ, zero, suc, _+_, _*_, _≤_, _<_}
 use native.Mathlib.Omega.{arith}
-use mathlib.Core.Path.{_≡_, refl, sym, _∙_}
-use mathlib.Core.Bool.{Bool, true, false}
+use mathlib.Core.Path.{_≡_, refl, sym, ap, _∙_, subst}
+use mathlib.Core.Bool.{true, false}
 use mathlib.Core.List.{List, [], _∷_, map}
 use lib.ListN.{length, getD, set, length-map}
+use lib.Seq.{ext-getD}
 use borrow.Author.Tests.{lt-ltb, le-ltb, eq-eqb, ne-eqb}
 use Rattle.lists.specs.Tests.{implies}
-use Rattle.lists.specs.Lists.{allAt}
-use Rattle.lists.proofs.Tests.{contradiction, cannot-pass, implies-intro}
-use Rattle.lists.proofs.Everywhere.{allAt-intro, allAt-elim}
-use Rattle.lists.proofs.Front.{front, front-more}
+use Rattle.lists.proofs.Tests.{implies-intro}
 use Rattle.tables.specs.declared.{Name.Name, Ticket.Ticket}
 use Rattle.tables.specs.Names.{free}
-use Rattle.index.specs.Places.{placeIn}
-use Rattle.recall_marks.specs.Keys.{keyOf, targetKey, childMarked}
 use Rattle.tables.specs.Kinds.{isChild, isRecall}
+use Rattle.index.specs.Places.{placeIn}
+use Rattle.listing.specs.Listing.{TicketsListed}
+use Rattle.listing.proofs.Laws.{Filled, filled-more, filled-end}
+use Rattle.recall_marks.specs.Keys.{keyOf, targetKey, childMarked}
 
 abbrev pub deadKey : Name → ℕ
 deadKey n = 257 + (n .pad * 65536 + n .program) * 65536 + n .number
@@ -43,24 +43,28 @@ getD-mapped g [] i d e h = absurd (omega arith)
 getD-mapped g (x ∷ xs) zero d e h = refl
 getD-mapped g (x ∷ xs) (suc i) d e h = getD-mapped g xs i d e (omega arith)
 
-module _ (g : Ticket → ℕ) (ks : List Ticket) where
-  pub written : (now before : List ℕ) (i x : ℕ) → i < length ks → x ≡ g (getD ks i free)
-      → now ≡ front i (map g ks) before → set now i x ≡ front (i + 1) (map g ks) before
-  written now before i x h e p =
-      let s : getD (map g ks) i 0 ≡ x = getD-mapped g ks i free 0 h ∙ sym e in
-      (λ j. set (p j) i (sym s j)) ∙ front-more i (map g ks) before 0 (rw (length-map ks g) h)
+module _ (numbers : List ℕ) (ks : List Ticket) (recalls : List ℕ) where
+  -- the first i listed keys stand
+  abbrev pub Written : ℕ → List ℕ → Type 0
+  Written = Filled 256 256 (λ p. targetKey numbers (getD ks p free)) recalls
 
--- ---- a test of every ticket, as far as the loop has come
-module _ (test : ℕ → Ticket → Bool) (ks : List Ticket) (i : ℕ) where
-  abbrev pub Passed : Type 0
-  Passed = (j : ℕ) → j < i → test j (getD ks j free) ≡ true
+  module _ (listing : TicketsListed (λ k. isRecall (k .kind)) ks recalls) where
+    pub written : (i : ℕ) (keys : List ℕ) → Written i keys → i < length recalls → (at x : ℕ) (k : Ticket)
+        → at ≡ getD recalls i 0 → k ≡ getD ks at free → x ≡ targetKey numbers k → Written (i + 1) (set keys at x)
+    written i keys so h at x k place here e =
+        subst (λ (p : ℕ). Written (i + 1) (set keys p x)) (sym place)
+        (filled-more 256 256 (λ p. targetKey numbers (getD ks p free)) recalls i keys so (listing .low i h) x
+        (e ∙ ap (targetKey numbers) (here ∙ ap (λ (p : ℕ). getD ks p free) place)))
 
-  pub passed-end : length ks ≤ i → Passed → true ≡ allAt test 0 ks
-  passed-end h e = sym (allAt-intro free test ks (λ j l. e j (omega arith)))
+    pub all-written : length ks ≡ 256 → (i : ℕ) (keys : List ℕ) → length recalls ≤ i → Written i keys → keys ≡ map (targetKey numbers) ks
+    all-written long i keys h so =
+        ext-getD 0 keys (map (targetKey numbers) ks) (so .long ∙ sym (length-map ks (targetKey numbers) ∙ long))
+        (λ p l.
+        filled-end 256 256 (λ q. targetKey numbers (getD ks q free)) recalls free (λ k. isRecall (k .kind)) ks (length recalls) listing
+        (λ q g r. sym (key-none numbers (getD ks q free) r)) i keys h so p (omega (arith, so .long, l))
+        ∙ sym (getD-mapped (targetKey numbers) ks p free 0 (omega (arith, so .long, long, l))))
 
-  pub passed-not : i < length ks → test i (getD ks i free) ≡ false → false ≡ allAt test 0 ks
-  passed-not h e = sym (cannot-pass (allAt test 0 ks) (λ a. contradiction (allAt-elim free test ks a i h) e))
-
+-- ---- a child's mark
 module _ (marks : List ℕ) (p : ℕ) (k : Ticket) where
   pub no-child : isChild (k .kind) ≡ false → childMarked marks p k ≡ true
   unfolding childMarked implies

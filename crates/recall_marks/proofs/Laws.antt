@@ -9,10 +9,10 @@ use mathlib.Core.Bool.{Bool, true, false}
 use mathlib.Core.List.{List, map}
 use lib.Dec.{ltb, eqb}
 use lib.ListN.{length, getD, length-map}
-use borrow.Author.Tests.{ltb-true, ltb-false, lt-ltb, eqb-true, eq-eqb, ne-eqb}
+use borrow.Author.Tests.{not-true, ltb-true, ltb-false, lt-ltb, eqb-true, eq-eqb, ne-eqb}
 use Rattle.lists.specs.Tests.{implies}
 use Rattle.lists.specs.Lists.{some, noTwo, allAt}
-use Rattle.lists.proofs.Tests.{Case, pass, fail, case, contradiction, both-ways, implies-intro, implies-elim}
+use Rattle.lists.proofs.Tests.{Case, pass, fail, case, contradiction, both-ways, not-test, implies-intro, implies-elim}
 use Rattle.lists.proofs.Everywhere.{allAt-intro, allAt-elim, some-intro, some-elim, noTwo-intro, noTwo-elim}
 use Rattle.tables.specs.declared.{Name.Name, Ticket.Ticket, Tables.Tables}
 use Rattle.tables.specs.Names.{free, eqName}
@@ -22,7 +22,8 @@ use Rattle.tables.proofs.NameLaws.{name-eq, eqName-true, eqName-test}
 use Rattle.tables.proofs.Fits.{NameFits}
 use Rattle.index.specs.Places.{placed, nameAt, placeIn, Flattened, Numbered}
 use Rattle.index.proofs.Laws.{every-placed, placed-every, some-placed, placed-some, place-found, name-place}
-use Rattle.recall_marks.specs.Keys.{keyOf, targetKey, isPlace, isDead, childMarked}
+use Rattle.listing.specs.Listing.{TicketsListed}
+use Rattle.recall_marks.specs.Keys.{keyOf, targetKey, isPlace, isDead, KeysListed, childMarked}
 use Rattle.recall_marks.proofs.KeySteps.{deadKey, key-place, key-dead, key-none, key-recall, getD-mapped}
 use Rattle.tables.specs.Kinds.{isLive, isChild, isRecall}
 
@@ -57,7 +58,7 @@ key-cases numbers k = by-kind (case (isRecall (k .kind)))
 
 module _ (numbers : List ℕ) (k : Ticket) where
   -- a key that is not 256 is a recall's
-  pub key-is-recall : (targetKey numbers k ≡ 256 → ⊥) → isRecall (k .kind) ≡ true
+  key-is-recall : (targetKey numbers k ≡ 256 → ⊥) → isRecall (k .kind) ≡ true
   key-is-recall ne = go (key-cases numbers k)
     where
       go : KeyOf numbers k → isRecall (k .kind) ≡ true
@@ -96,6 +97,24 @@ module _ (numbers : List ℕ) (k : Ticket) where
 pub key-written : (numbers keys : List ℕ) (ks : List Ticket) → keys ≡ map (targetKey numbers) ks → (i : ℕ) → i < length ks
     → getD keys i 0 ≡ targetKey numbers (getD ks i free)
 key-written numbers keys ks e i h = ap (λ (l : List ℕ). getD l i 0) e ∙ getD-mapped (targetKey numbers) ks i free 0 h
+
+-- the places that have a key are those of the recalls
+pub keys-listed : (numbers keys : List ℕ) (ks : List Ticket) (recalls : List ℕ) → keys ≡ map (targetKey numbers) ks → length ks ≡ 256
+    → TicketsListed (λ k. isRecall (k .kind)) ks recalls → KeysListed keys recalls
+keys-listed numbers keys ks recalls e long listing = record {
+  most = listing .most;
+  low = listing .low;
+  passes = λ j h. let p = getD recalls j 0 in
+      not-test (eqb (getD keys p 256) 256)
+      (ne-eqb (getD keys p 256) 256 (λ z. recall-key numbers (getD ks p free) (listing .passes j h) (sym (here p (listing .low j h)) ∙ z)));
+  rising = listing .rising;
+  all = λ p h t. listing .all p h
+      (key-is-recall numbers (getD ks p free)
+      (λ z. contradiction (eq-eqb (getD keys p 256) 256 (here p h ∙ z)) (not-true (eqb (getD keys p 256) 256) t)));
+}
+  where
+    here : (p : ℕ) → p < 256 → getD keys p 256 ≡ targetKey numbers (getD ks p free)
+    here p h = ap (λ (l : List ℕ). getD l p 256) e ∙ getD-mapped (targetKey numbers) ks p free 256 (omega (arith, long, h))
 
 module _ (t : Tables) (numbers : List ℕ) (ix : Numbered t numbers) where
   -- a place has one name

@@ -1,20 +1,22 @@
--- Keys seen so far. A loop over the keys keeps what tells whether a key stands among those before it: a mark at a place, or a list of the
--- dead ones. Where a key that counts was seen before, two are alike. Where none was, those up to here are apart, and at the end none
--- stands twice.
+-- Keys seen so far. A loop over the keys at the listed places keeps what tells whether a key stands among those before it: a mark at a
+-- place, or a list of the dead ones. Where a key that counts was seen before, two are alike. Where none was, those up to here are apart,
+-- and at the end none stands twice: what is listed is every place that has a key, and 256 does not count.
 use Prim.Native.Nat.{ℕ, _+_, _≤_, _<_}
 use native.Mathlib.Numerals.{add-one}
 use native.Mathlib.Omega.{arith}
 use mathlib.Core.Path.{_≡_, refl, sym, ap, _∙_, subst}
 use mathlib.Core.Bool.{Bool, true, false, _||_}
 use mathlib.Core.List.{List, [], _∷_, _++_}
-use lib.Dec.{eqb}
+use lib.Dec.{ltb, eqb}
 use lib.ListN.{length, getD, set, take, replicate, length-replicate, getD-replicate, length-set}
 use lib.Seq.{getD-set-same, getD-set-other, take-suc-set}
-use borrow.Author.Tests.{ltb-true, lt-ltb, eqb-true, eqb-false, eq-eqb, ne-eqb}
+use borrow.Author.Tests.{ltb-true, ltb-false, lt-ltb, eqb-true, eqb-false, eq-eqb, ne-eqb}
 use Rattle.lists.specs.Lists.{some, noTwo}
-use Rattle.lists.proofs.Tests.{Case, pass, fail, case, no-true, contradiction, cannot-pass, both-ways, or-left, or-right}
+use Rattle.lists.proofs.Tests.{Case, pass, fail, case, no-true, contradiction, cannot-pass, both-ways, not-test, or-left, or-right}
 use Rattle.lists.proofs.Everywhere.{some-intro, some-elim, noTwo-intro, noTwo-elim}
-use Rattle.recall_marks.specs.Keys.{isPlace, isDead, Marked}
+use Rattle.lists.proofs.Reading.{any-default}
+use Rattle.listing.specs.Listing.{Spot}
+use Rattle.recall_marks.specs.Keys.{isPlace, isDead, KeysListed, Marked}
 
 -- ---- a number among others
 -- the number at i, and no other before it, is x
@@ -42,10 +44,32 @@ has-snoc (b ∷ l) a x = ap (λ (r : Bool). eqb b x || r) (has-snoc l a x) ∙ o
     or-assoc true q r = refl
     or-assoc false q r = refl
 
--- ---- among the first i keys
-module _ (keys : List ℕ) where
+-- ---- the listed places
+module _ (keys places : List ℕ) (long : length keys ≡ 256) (listing : KeysListed keys places) where
+  -- a key that is not 256 is at one
+  spot : (p : ℕ) → p < 256 → (getD keys p 0 ≡ 256 → ⊥) → Spot places (length places) p
+  spot p h ne =
+      listing .all p h
+      (not-test (eqb (getD keys p 256) 256)
+      (ne-eqb (getD keys p 256) 256 (λ e. ne (any-default keys p 0 256 (omega (arith, long, h)) ∙ e))))
+
+  in-order : (a b : ℕ) → a < b → (s : Spot places (length places) a) (t : Spot places (length places) b) → s .at < t .at
+  in-order a b h s t = go (case (ltb (s .at) (t .at))) (case (ltb (t .at) (s .at)))
+    where
+      go : Case (ltb (s .at) (t .at)) → Case (ltb (t .at) (s .at)) → s .at < t .at
+      go (pass e) c = ltb-true (s .at) (t .at) e
+      go (fail e) (pass f) =
+          let r = listing .rising (t .at) (s .at) (ltb-true (t .at) (s .at) f) (s .low) in
+          absurd (omega (arith, r, h, s .here, t .here))
+      go (fail e) (fail f) =
+          let q : s .at ≡ t .at = omega (arith, ltb-false (s .at) (t .at) e, ltb-false (t .at) (s .at) f) in
+          let r : getD places (s .at) 0 ≡ getD places (t .at) 0 = ap (λ (j : ℕ). getD places j 0) q in
+          absurd (omega (arith, r, h, s .here, t .here))
+
+-- ---- among the keys at the first i of them
+module _ (keys places : List ℕ) where
   abbrev key : ℕ → ℕ
-  key a = getD keys a 0
+  key a = getD keys (getD places a 0) 0
 
   -- x is one of them
   pub record Before (i x : ℕ) : Type 0 where
@@ -73,16 +97,34 @@ module _ (keys : List ℕ) where
             rw h (ne-eqb (key a) (key i) (λ s. new (subst (λ (m : ℕ). counts (key m) ≡ true) h d) a (omega arith) c s))
         go (fail e) = apart a b p (omega (arith, eqb-false b i e)) c d
 
-    apart-end : (i : ℕ) → length keys ≤ i → Apart i → noTwo counts eqb keys ≡ true
-    apart-end i h apart = noTwo-intro 0 counts eqb keys (λ a b p q. apart a b p (omega arith))
+    module _ (long : length keys ≡ 256) (listing : KeysListed keys places) where
+      apart-end : counts 256 ≡ false → (i : ℕ) → length places ≤ i → Apart i → noTwo counts eqb keys ≡ true
+      apart-end none i h apart = noTwo-intro 0 counts eqb keys two
+        where
+          counted : (p : ℕ) → p < length keys → counts (getD keys p 0) ≡ true → Spot places (length places) p
+          counted p g c =
+              spot keys places long listing p (omega (arith, long, g))
+              (λ z. contradiction (subst (λ (x : ℕ). counts x ≡ true) z c) none)
 
-    apart-not : (i : ℕ) → i < length keys → Before i (key i) → counts (key i) ≡ true → noTwo counts eqb keys ≡ false
-    apart-not i h b c = cannot-pass (noTwo counts eqb keys) twice
-      where
-        twice : noTwo counts eqb keys ≡ true → ⊥
-        twice e =
-            contradiction (eq-eqb (key (b .at)) (key i) (b .here))
-            (noTwo-elim 0 counts eqb keys e (b .at) i (b .low) h (subst (λ (x : ℕ). counts x ≡ true) (sym (b .here)) c) c)
+          two : (a b : ℕ) → a < b → b < length keys → counts (getD keys a 0) ≡ true → counts (getD keys b 0) ≡ true
+              → eqb (getD keys a 0) (getD keys b 0) ≡ false
+          two a b l g c d =
+              let s = counted a (omega (arith, l, g)) c in
+              let t = counted b g d in
+              let e : getD keys a 0 ≡ key (s .at) = ap (λ (p : ℕ). getD keys p 0) (sym (s .here)) in
+              let f : getD keys b 0 ≡ key (t .at) = ap (λ (p : ℕ). getD keys p 0) (sym (t .here)) in
+              (λ k. eqb (e k) (f k))
+              ∙ apart (s .at) (t .at) (in-order keys places long listing a b l s t) (omega (arith, t .low, h))
+              (subst (λ (x : ℕ). counts x ≡ true) e c) (subst (λ (x : ℕ). counts x ≡ true) f d)
+
+      apart-not : (i : ℕ) → i < length places → Before i (key i) → counts (key i) ≡ true → noTwo counts eqb keys ≡ false
+      apart-not i h b c = cannot-pass (noTwo counts eqb keys) twice
+        where
+          twice : noTwo counts eqb keys ≡ true → ⊥
+          twice e =
+              contradiction (eq-eqb (key (b .at)) (key i) (b .here))
+              (noTwo-elim 0 counts eqb keys e (getD places (b .at) 0) (getD places i 0) (listing .rising (b .at) i (b .low) h)
+              (omega (arith, long, listing .low i h)) (subst (λ (x : ℕ). counts x ≡ true) (sym (b .here)) c) c)
 
   -- ---- the marks: 1 at the places among the keys, 0 elsewhere
   pub record Marks (i : ℕ) (marks : List ℕ) : Type 0 where
@@ -100,83 +142,88 @@ module _ (keys : List ℕ) where
   }
 
   module _ (i : ℕ) (marks : List ℕ) (m : Marks i marks) where
-    pub marks-skip : 256 ≤ key i → Marks (i + 1) marks
-    marks-skip h = record {
-      long = m .long;
-      apart = apart-more isPlace i (m .apart) (λ c. absurd (omega (arith, ltb-true (key i) 256 c, h)));
-      hit = hit;
-      from = λ p l ne. later i p (m .from p l ne);
-    }
-      where
-        hit : (a : ℕ) → a < i + 1 → key a < 256 → getD marks (key a) 0 ≡ 1
-        hit a l k = m .hit a (go (case (eqb a i))) k
-          where
-            go : Case (eqb a i) → a < i
-            go (pass e) = let s : key a ≡ key i = ap key (eqb-true a i e) in absurd (omega (arith, s, h, k))
-            go (fail e) = omega (arith, eqb-false a i e, l)
-
-    module _ (low : key i < 256) where
-      pub marks-more : getD marks (key i) 0 ≡ 0 → Marks (i + 1) (set marks (key i) 1)
-      marks-more z = record {
-        long = length-set marks (key i) 1 ∙ m .long;
-        apart = apart-more isPlace i (m .apart) (λ c a l d s. clash a l s);
+    -- one turn, with x the key there
+    module _ (x : ℕ) (is : x ≡ key i) where
+      pub marks-skip : 256 ≤ x → Marks (i + 1) marks
+      marks-skip h = record {
+        long = m .long;
+        apart = apart-more isPlace i (m .apart) (λ c. absurd (omega (arith, ltb-true (key i) 256 c, is, h)));
         hit = hit;
-        from = from;
+        from = λ p l ne. later i p (m .from p l ne);
       }
         where
-          there : key i < length marks
-          there = omega (arith, m .long, low)
-
-          clash : (a : ℕ) → a < i → key a ≡ key i → ⊥
-          clash a l s =
-              let e : getD marks (key a) 0 ≡ 1 = m .hit a l (omega (arith, s, low)) in
-              let f : getD marks (key a) 0 ≡ 0 = ap (λ (p : ℕ). getD marks p 0) s ∙ z in
-              omega (arith, e, f)
-
-          hit : (a : ℕ) → a < i + 1 → key a < 256 → getD (set marks (key i) 1) (key a) 0 ≡ 1
-          hit a l k = go (case (eqb (key a) (key i)))
+          hit : (a : ℕ) → a < i + 1 → key a < 256 → getD marks (key a) 0 ≡ 1
+          hit a l k = m .hit a (go (case (eqb a i))) k
             where
-              go : Case (eqb (key a) (key i)) → getD (set marks (key i) 1) (key a) 0 ≡ 1
-              go (pass e) = rw (eqb-true (key a) (key i) e) (getD-set-same marks (key i) 1 0 there)
-              go (fail e) =
-                  getD-set-other marks (key i) (key a) 1 0 (eqb-false (key a) (key i) e)
-                  ∙ m .hit a (earlier (case (eqb a i))) k
-                where
-                  earlier : Case (eqb a i) → a < i
-                  earlier (pass f) = absurd (eqb-false (key a) (key i) e (ap key (eqb-true a i f)))
-                  earlier (fail f) = omega (arith, eqb-false a i f, l)
+              go : Case (eqb a i) → a < i
+              go (pass e) = let s : key a ≡ key i = ap key (eqb-true a i e) in absurd (omega (arith, s, is, h, k))
+              go (fail e) = omega (arith, eqb-false a i e, l)
 
-          from : (p : ℕ) → p < 256 → (getD (set marks (key i) 1) p 0 ≡ 0 → ⊥) → Before (i + 1) p
-          from p l ne = go (case (eqb p (key i)))
-            where
-              go : Case (eqb p (key i)) → Before (i + 1) p
-              go (pass e) = record { at = i; low = omega arith; here = sym (eqb-true p (key i) e) }
-              go (fail e) =
-                  later i p (m .from p l (λ z. ne (getD-set-other marks (key i) p 1 0 (eqb-false p (key i) e) ∙ z)))
+      module _ (low : x < 256) where
+        pub marks-more : getD marks x 0 ≡ 0 → Marks (i + 1) (set marks x 1)
+        marks-more z = record {
+          long = length-set marks x 1 ∙ m .long;
+          apart = apart-more isPlace i (m .apart) (λ c a l d s. clash a l (s ∙ sym is));
+          hit = hit;
+          from = from;
+        }
+          where
+            there : x < length marks
+            there = omega (arith, m .long, low)
 
-      pub marks-not : i < length keys → (getD marks (key i) 0 ≡ 0 → ⊥) → Marked keys marks false
-      marks-not l ne = record {
-        once = sym (apart-not isPlace i l (m .from (key i) low ne) (lt-ltb (key i) 256 low));
-        told = λ e. no-true e;
-      }
+            clash : (a : ℕ) → a < i → key a ≡ x → ⊥
+            clash a l s =
+                let e : getD marks (key a) 0 ≡ 1 = m .hit a l (omega (arith, s, low)) in
+                let f : getD marks (key a) 0 ≡ 0 = ap (λ (p : ℕ). getD marks p 0) s ∙ z in
+                omega (arith, e, f)
 
-    pub marks-end : length keys ≡ i → Marked keys marks true
-    marks-end h = record {
-      once = sym (apart-end isPlace i (omega arith) (m .apart));
+            hit : (a : ℕ) → a < i + 1 → key a < 256 → getD (set marks x 1) (key a) 0 ≡ 1
+            hit a l k = go (case (eqb (key a) x))
+              where
+                go : Case (eqb (key a) x) → getD (set marks x 1) (key a) 0 ≡ 1
+                go (pass e) = rw (eqb-true (key a) x e) (getD-set-same marks x 1 0 there)
+                go (fail e) =
+                    getD-set-other marks x (key a) 1 0 (eqb-false (key a) x e)
+                    ∙ m .hit a (earlier (case (eqb a i))) k
+                  where
+                    earlier : Case (eqb a i) → a < i
+                    earlier (pass f) = absurd (eqb-false (key a) x e (ap key (eqb-true a i f) ∙ sym is))
+                    earlier (fail f) = omega (arith, eqb-false a i f, l)
+
+            from : (p : ℕ) → p < 256 → (getD (set marks x 1) p 0 ≡ 0 → ⊥) → Before (i + 1) p
+            from p l ne = go (case (eqb p x))
+              where
+                go : Case (eqb p x) → Before (i + 1) p
+                go (pass e) = record { at = i; low = omega arith; here = sym is ∙ sym (eqb-true p x e) }
+                go (fail e) =
+                    later i p (m .from p l (λ z. ne (getD-set-other marks x p 1 0 (eqb-false p x e) ∙ z)))
+
+        pub marks-not : length keys ≡ 256 → KeysListed keys places → i < length places → (getD marks x 0 ≡ 0 → ⊥) → Marked keys marks false
+        marks-not long listing l ne = record {
+          once = sym (apart-not isPlace long listing i l (subst (Before i) is (m .from x low ne)) (lt-ltb (key i) 256 (subst (λ (y : ℕ). y < 256) is low)));
+          told = λ e. no-true e;
+        }
+
+    pub marks-end : length keys ≡ 256 → KeysListed keys places → length places ≡ i → Marked keys marks true
+    marks-end long listing h = record {
+      once = sym (apart-end isPlace long listing refl i (omega (arith, h)) (m .apart));
       told = λ e p l. both-ways (eqb (getD marks p 0) 1) (some (λ x. eqb x p) keys) (there p l) (back p l);
     }
       where
         there : (p : ℕ) → p < 256 → eqb (getD marks p 0) 1 ≡ true → some (λ x. eqb x p) keys ≡ true
         there p l e =
             let b : Before i p = m .from p l (λ z. omega (arith, eqb-true (getD marks p 0) 1 e, z)) in
-            some-intro 0 (λ x. eqb x p) keys (b .at) (omega (arith, b .low, h)) (eq-eqb (key (b .at)) p (b .here))
+            some-intro 0 (λ x. eqb x p) keys (getD places (b .at) 0) (omega (arith, long, listing .low (b .at) (omega (arith, b .low, h))))
+            (eq-eqb (key (b .at)) p (b .here))
 
         back : (p : ℕ) → p < 256 → some (λ x. eqb x p) keys ≡ true → eqb (getD marks p 0) 1 ≡ true
         back p l e =
             let w = some-elim 0 (λ x. eqb x p) keys e in
-            let s : key (w .place) ≡ p = eqb-true (key (w .place)) p (w .passes) in
-            let t : getD marks (key (w .place)) 0 ≡ 1 = m .hit (w .place) (omega (arith, w .low, h)) (omega (arith, s, l)) in
-            eq-eqb (getD marks p 0) 1 (ap (λ (x : ℕ). getD marks x 0) (sym s) ∙ t)
+            let s : getD keys (w .place) 0 ≡ p = eqb-true (getD keys (w .place) 0) p (w .passes) in
+            let q = spot keys places long listing (w .place) (omega (arith, w .low, long)) (λ z. omega (arith, z, s, l)) in
+            let r : key (q .at) ≡ p = ap (λ (x : ℕ). getD keys x 0) (q .here) ∙ s in
+            let t : getD marks (key (q .at)) 0 ≡ 1 = m .hit (q .at) (omega (arith, q .low, h)) (omega (arith, r, l)) in
+            eq-eqb (getD marks p 0) 1 (ap (λ (x : ℕ). getD marks x 0) (sym r) ∙ t)
 
   -- ---- the dead keys, listed one after the other
   abbrev listed : ℕ → List ℕ → ℕ → Bool
@@ -200,58 +247,64 @@ module _ (keys : List ℕ) where
   }
 
   module _ (i count : ℕ) (dead : List ℕ) (m : Dead i count dead) where
-    pub dead-skip : key i ≤ 256 → Dead (i + 1) count dead
-    dead-skip h = record {
-      long = m .long;
-      few = omega (arith, m .few);
-      apart = apart-more isDead i (m .apart) (λ c. absurd (omega (arith, ltb-true 256 (key i) c, h)));
-      hit = hit;
-      from = λ x e. later i x (m .from x e);
-    }
-      where
-        hit : (a : ℕ) → a < i + 1 → 256 < key a → listed count dead (key a) ≡ true
-        hit a l k = m .hit a (go (case (eqb a i))) k
-          where
-            go : Case (eqb a i) → a < i
-            go (pass e) = let s : key a ≡ key i = ap key (eqb-true a i e) in absurd (omega (arith, s, h, k))
-            go (fail e) = omega (arith, eqb-false a i e, l)
-
-    module _ (high : 256 < key i) where
-      pub dead-more : i < 256 → listed count dead (key i) ≡ false → Dead (i + 1) (count + 1) (set dead count (key i))
-      dead-more room new = record {
-        long = length-set dead count (key i) ∙ m .long;
+    -- one turn, with x the key there
+    module _ (x : ℕ) (is : x ≡ key i) where
+      pub dead-skip : x ≤ 256 → Dead (i + 1) count dead
+      dead-skip h = record {
+        long = m .long;
         few = omega (arith, m .few);
-        apart = apart-more isDead i (m .apart) (λ c a l d s. contradiction (subst (λ (x : ℕ). listed count dead x ≡ true) s (m .hit a l (omega (arith, s, high)))) new);
+        apart = apart-more isDead i (m .apart) (λ c. absurd (omega (arith, ltb-true 256 (key i) c, is, h)));
         hit = hit;
-        from = from;
+        from = λ y e. later i y (m .from y e);
       }
         where
-          one-more : (x : ℕ) → listed (count + 1) (set dead count (key i)) x ≡ (listed count dead x || eqb (key i) x)
-          one-more x =
-              let e : take (count + 1) (set dead count (key i)) ≡ take count dead ++ (key i ∷ [])
-              = rw add-one (take-suc-set dead count (key i) (omega (arith, m .few, m .long, room))) in
-              ap (some (λ y. eqb y x)) e ∙ has-snoc (take count dead) (key i) x
-
-          hit : (a : ℕ) → a < i + 1 → 256 < key a → listed (count + 1) (set dead count (key i)) (key a) ≡ true
-          hit a l k = one-more (key a) ∙ go (case (eqb a i))
+          hit : (a : ℕ) → a < i + 1 → 256 < key a → listed count dead (key a) ≡ true
+          hit a l k = m .hit a (go (case (eqb a i))) k
             where
-              go : Case (eqb a i) → (listed count dead (key a) || eqb (key i) (key a)) ≡ true
-              go (pass e) = or-right (listed count dead (key a)) (eq-eqb (key i) (key a) (ap key (sym (eqb-true a i e))))
-              go (fail e) = or-left (eqb (key i) (key a)) (m .hit a (omega (arith, eqb-false a i e, l)) k)
+              go : Case (eqb a i) → a < i
+              go (pass e) = let s : key a ≡ key i = ap key (eqb-true a i e) in absurd (omega (arith, s, is, h, k))
+              go (fail e) = omega (arith, eqb-false a i e, l)
 
-          from : (x : ℕ) → listed (count + 1) (set dead count (key i)) x ≡ true → Before (i + 1) x
-          from x e = go (case (eqb (key i) x))
-            where
-              go : Case (eqb (key i) x) → Before (i + 1) x
-              go (pass f) = record { at = i; low = omega arith; here = eqb-true (key i) x f }
-              go (fail f) = later i x (m .from x (or-first (listed count dead x) (eqb (key i) x) (sym (one-more x) ∙ e) f))
-                where
-                  or-first : (a b : Bool) → (a || b) ≡ true → b ≡ false → a ≡ true
-                  or-first true b h g = refl
-                  or-first false b h g = sym g ∙ h
+      module _ (high : 256 < x) where
+        pub dead-more : i < 256 → listed count dead x ≡ false → Dead (i + 1) (count + 1) (set dead count x)
+        dead-more room new = record {
+          long = length-set dead count x ∙ m .long;
+          few = omega (arith, m .few);
+          apart = apart-more isDead i (m .apart) (λ c a l d s. clash a l (s ∙ sym is));
+          hit = hit;
+          from = from;
+        }
+          where
+            clash : (a : ℕ) → a < i → key a ≡ x → ⊥
+            clash a l s = contradiction (subst (λ (y : ℕ). listed count dead y ≡ true) s (m .hit a l (omega (arith, s, high)))) new
 
-      pub dead-not : i < length keys → listed count dead (key i) ≡ true → false ≡ noTwo isDead eqb keys
-      dead-not l e = sym (apart-not isDead i l (m .from (key i) e) (lt-ltb 256 (key i) high))
+            one-more : (y : ℕ) → listed (count + 1) (set dead count x) y ≡ (listed count dead y || eqb x y)
+            one-more y =
+                let e : take (count + 1) (set dead count x) ≡ take count dead ++ (x ∷ [])
+                = rw add-one (take-suc-set dead count x (omega (arith, m .few, m .long, room))) in
+                ap (some (λ z. eqb z y)) e ∙ has-snoc (take count dead) x y
 
-    pub dead-end : length keys ≡ i → true ≡ noTwo isDead eqb keys
-    dead-end h = sym (apart-end isDead i (omega arith) (m .apart))
+            hit : (a : ℕ) → a < i + 1 → 256 < key a → listed (count + 1) (set dead count x) (key a) ≡ true
+            hit a l k = one-more (key a) ∙ go (case (eqb a i))
+              where
+                go : Case (eqb a i) → (listed count dead (key a) || eqb x (key a)) ≡ true
+                go (pass e) = or-right (listed count dead (key a)) (eq-eqb x (key a) (is ∙ ap key (sym (eqb-true a i e))))
+                go (fail e) = or-left (eqb x (key a)) (m .hit a (omega (arith, eqb-false a i e, l)) k)
+
+            from : (y : ℕ) → listed (count + 1) (set dead count x) y ≡ true → Before (i + 1) y
+            from y e = go (case (eqb x y))
+              where
+                go : Case (eqb x y) → Before (i + 1) y
+                go (pass f) = record { at = i; low = omega arith; here = sym is ∙ eqb-true x y f }
+                go (fail f) = later i y (m .from y (or-first (listed count dead y) (eqb x y) (sym (one-more y) ∙ e) f))
+                  where
+                    or-first : (a b : Bool) → (a || b) ≡ true → b ≡ false → a ≡ true
+                    or-first true b h g = refl
+                    or-first false b h g = sym g ∙ h
+
+        pub dead-not : length keys ≡ 256 → KeysListed keys places → i < length places → listed count dead x ≡ true → false ≡ noTwo isDead eqb keys
+        dead-not long listing l e =
+            sym (apart-not isDead long listing i l (subst (Before i) is (m .from x e)) (lt-ltb 256 (key i) (subst (λ (y : ℕ). 256 < y) is high)))
+
+    pub dead-end : length keys ≡ 256 → KeysListed keys places → length places ≡ i → true ≡ noTwo isDead eqb keys
+    dead-end long listing h = sym (apart-end isDead long listing refl i (omega (arith, h)) (m .apart))

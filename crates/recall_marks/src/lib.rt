@@ -58,8 +58,9 @@ pub fn mark_places(keys: &[usize; 256], recalls: &[u16], marks: &mut [u8; 256]) 
 {
     let mut i: usize = 0;
     while i < recalls.len() {
-        let key = keys[chains::wide(recalls[i])];
+        let at = chains::wide(recalls[i]);
         i = i + 1;
+        let key = keys[at];
         if key < 256 {
             if marks[key] != 0 {
                 return false;
@@ -93,8 +94,9 @@ pub fn dead_once(keys: &[usize; 256], recalls: &[u16]) -> bool
     let mut count: usize = 0;
     let mut i: usize = 0;
     while i < recalls.len() {
-        let key = keys[chains::wide(recalls[i])];
+        let at = chains::wide(recalls[i]);
         i = i + 1;
+        let key = keys[at];
         if 256 < key {
             if has(&dead[..count], key) {
                 return false;

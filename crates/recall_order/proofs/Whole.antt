@@ -1,30 +1,47 @@
 -- T6 put together: each recall by itself, no target with two recalls, every child with one. The keys settle the last two.
-use Prim.Native.Nat.{ℕ, _<_}
-use mathlib.Core.Path.{_≡_, refl, sym, ap, _∙_}
+use Prim.Native.Nat.{ℕ, _+_, _<_}
+use native.Mathlib.Omega.{arith}
+use mathlib.Core.Path.{_≡_, refl, sym, ap, subst, _∙_}
 use mathlib.Core.Bool.{Bool, true, false, _&&_}
 use mathlib.Core.List.{List, map}
 use lib.Dec.{eqb}
-use lib.ListN.{getD}
+use lib.ListN.{getD, drop}
+use lib.Seq.{getD-drop}
 use Rattle.lists.specs.Lists.{some, noTwo, allAt}
 use Rattle.lists.proofs.Tests.{both-ways, not-pass, and-l, and-r, and-intro}
-use Rattle.tables.specs.declared.{Entry.Entry, Tables.Tables}
+use Rattle.tables.specs.declared.{Ticket.Ticket, Tables.Tables}
 use Rattle.tables.specs.Names.{free}
 use Rattle.tables.specs.Order.{everyTicket, recallOk, t6}
-use Rattle.tables.proofs.Fits.{Owned, NameFits, array-at, ticket-fits}
-use Rattle.tables.proofs.Ticket as ticket
-use Rattle.index.specs.declared.Flat.{Flat}
-use Rattle.index.proofs.Flat as flat
+use Rattle.tables.proofs.Fits.{NameFits}
+use Rattle.image.specs.Numbers.{numberAt}
+use Rattle.image.specs.Image.{ticketIn, ticketStart}
+use Rattle.decode.specs.Places.{ticketsIn, lastsIn}
+use Rattle.decode.proofs.Places.{ticket-here}
 use Rattle.index.proofs.Laws.{every-placed, placed-every}
 use Rattle.recall_marks.specs.Keys.{targetKey, isPlace, isDead, Marked, childMarked}
 use Rattle.recall_marks.proofs.Laws.{oneRecall, hasRecall, once-keys, keys-once, children-recalled}
 use Rattle.recall_order.specs.Recalls.{LaidOut, recallHolds}
 use Rattle.tables.specs.Kinds.{isChild, isRecall}
 
--- a target's numbers fit 16 bits
-pub targets-fit : (f : Flat) → Owned flat.the-field f → (p : ℕ) → p < 256 → NameFits (getD (f .tickets) p free .other)
-targets-fit f o p h = ticket-fits (getD (f .tickets) p free) (array-at ticket.the-field 256 (f .tickets) (_, o .1 .1 .1 .0) p free h) .other
+-- a target's numbers fit 16 bits: each is two bytes
+number-fits : (bytes : List ℕ) → ((i : ℕ) → getD bytes i 0 < 256) → (start at : ℕ) → numberAt at (drop start bytes) < 65536
+number-fits bytes small start at =
+    omega
+    (arith, getD-drop start bytes at 0, getD-drop start bytes (at + 1) 0, small (start + at), small (start + (at + 1)))
 
-module _ {t : Tables} {f : Flat} {es : List Entry} {numbers notes : List ℕ} (ix : LaidOut t f es numbers notes) where
+target-fits : (bytes : List ℕ) → ((i : ℕ) → getD bytes i 0 < 256) → (start : ℕ) → NameFits (ticketIn (drop start bytes) .other)
+unfolding ticketIn
+target-fits bytes small start = record {
+  pad = number-fits bytes small start 6;
+  program = number-fits bytes small start 8;
+  number = number-fits bytes small start 10;
+}
+
+pub targets-fit : (image : List ℕ) → ((i : ℕ) → getD image i 0 < 256) → (p : ℕ) → p < 256 → NameFits (getD (ticketsIn image) p free .other)
+targets-fit image small p h =
+    subst (λ (k : Ticket). NameFits (k .other)) (sym (ticket-here image p h)) (target-fits image small (ticketStart p))
+
+module _ {t : Tables} {image numbers notes : List ℕ} (ix : LaidOut t image numbers notes) where
   abbrev each : Bool
   each = everyTicket isRecall (recallHolds t) t
 
@@ -53,12 +70,12 @@ module _ {t : Tables} {f : Flat} {es : List Entry} {numbers notes : List ℕ} (i
   pub not-each : each ≡ false → false ≡ t6 t
   not-each e = sym (by-part ∙ ap (λ (b : Bool). b && once && recalled) e)
 
-  module _ (fits : (p : ℕ) → p < 256 → NameFits (getD (f .tickets) p free .other)) {keys : List ℕ} (keyed : keys ≡ map (targetKey numbers) (f .tickets)) where
+  module _ (fits : (p : ℕ) → p < 256 → NameFits (getD (ticketsIn image) p free .other)) {keys : List ℕ} (keyed : keys ≡ map (targetKey numbers) (ticketsIn image)) where
     not-once : (counts : ℕ → Bool) → counts 256 ≡ false → noTwo counts eqb keys ≡ false → false ≡ t6 t
     not-once counts none e =
         sym
         (not-pass (λ s. and-r each once (and-l (each && once) recalled (sym by-part ∙ s)))
-        (not-pass (once-keys t (f .tickets) (f .lasts) numbers (ix .flat) (ix .numbered) fits counts none) (ap (noTwo counts eqb) (sym keyed) ∙ e)))
+        (not-pass (once-keys t (ticketsIn image) (lastsIn image) numbers (ix .flat) (ix .numbered) fits counts none) (ap (noTwo counts eqb) (sym keyed) ∙ e)))
 
     pub two-places : noTwo isPlace eqb keys ≡ false → false ≡ t6 t
     two-places = not-once isPlace refl
@@ -66,11 +83,11 @@ module _ {t : Tables} {f : Flat} {es : List Entry} {numbers notes : List ℕ} (i
     pub two-dead : noTwo isDead eqb keys ≡ false → false ≡ t6 t
     two-dead = not-once isDead refl
 
-    pub whole : each ≡ true → (marks : List ℕ) → Marked keys marks true → noTwo isDead eqb keys ≡ true → allAt (childMarked marks) 0 (f .tickets) ≡ t6 t
+    pub whole : each ≡ true → (marks : List ℕ) → Marked keys marks true → noTwo isDead eqb keys ≡ true → allAt (childMarked marks) 0 (ticketsIn image) ≡ t6 t
     whole all marks m dead =
-        children-recalled t (f .tickets) (f .lasts) numbers (ix .flat) (ix .numbered) marks (λ p h. m .told refl p h ∙ ap (some (λ key. eqb key p)) keyed)
+        children-recalled t (ticketsIn image) (lastsIn image) numbers (ix .flat) (ix .numbered) marks (λ p h. m .told refl p h ∙ ap (some (λ key. eqb key p)) keyed)
         ∙ sym
         (by-part ∙ ap (λ (b : Bool). b && once && recalled) all
         ∙ ap (λ (b : Bool). b && recalled)
-        (keys-once t (f .tickets) (f .lasts) numbers (ix .flat) (ix .numbered) fits
+        (keys-once t (ticketsIn image) (lastsIn image) numbers (ix .flat) (ix .numbered) fits
         (ap (noTwo isPlace eqb) (sym keyed) ∙ sym (m .once)) (ap (noTwo isDead eqb) (sym keyed) ∙ dead)))

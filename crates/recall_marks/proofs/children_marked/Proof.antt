@@ -1,82 +1,78 @@
--- `children_marked`: the children at the first i places are marked.
-use Prim.Native.Nat.{_-_, _≤_}
+-- `children_marked`: the first i listed places are marked; who is not a child needs no mark.
+use Prim.Native.Nat.{ℕ, _-_, _≤_, _<_}
 use native.Mathlib.Omega.{arith}
-use mathlib.Core.Path.{sym, _∙_}
-use lib.ListN.{getD}
+use mathlib.Core.Path.{_≡_, sym, ap, _∙_}
+use lib.ListN.{length, getD}
 use borrow.Author.Needs.{needs}
 use borrow.Author.Count.{below-more}
 use Rattle.tables.specs.Names.{free}
-use Rattle.index.proofs.Laying.{flat-long}
+use Rattle.tables.specs.Kinds.{isChild}
+use Rattle.listing.proofs.Laws.{listed-allAt, listed-broken}
 use Rattle.recall_marks.specs.Keys.{childMarked}
-use Rattle.recall_marks.proofs.KeySteps.{Passed, passed-end, passed-not, child-ok, child-not, no-child}
+use Rattle.recall_marks.proofs.KeySteps.{child-ok, child-not, no-child}
 use Rattle.recall_marks.proofs.children_marked.Statement.{statement}
 use Rattle.recall_marks.proofs.children_marked.Tie as tie
 
 abbrev Inv-loop : tie.InvT-loop
-Inv-loop marks f i₀ i = (i ≤ 256) × Passed (childMarked marks) (f .tickets) i
+Inv-loop children marks i₀ i = (i ≤ length children) × ((j : ℕ) → j < i → getD marks (getD children j 0) 0 ≡ 1)
 
 abbrev μ-loop : tie.MeasureT-loop
-μ-loop marks f i₀ i = 256 - i
+μ-loop children marks i₀ i = length children - i
 
 loop-holds : tie.Need-loop-holds Inv-loop μ-loop
 loop-holds c = (omega arith, λ j h. absurd (omega (arith, h)))
 
-mul-k : tie.Need-mul-k Inv-loop μ-loop
-mul-k c = search needs
+mul-wide : tie.Need-mul-wide Inv-loop μ-loop
+mul-wide c = search needs
 
-element-copy-out-k : tie.Need-element-copy-out-k Inv-loop μ-loop
-element-copy-out-k c = search needs
+shared-slice-read-wide : tie.Need-shared-slice-read-wide Inv-loop μ-loop
+shared-slice-read-wide c = search needs
+
+wide-requires : tie.Need-wide-requires Inv-loop μ-loop
+wide-requires c κs = search needs
 
 add-i : tie.Need-add-i Inv-loop μ-loop
 add-i c = search needs
 
-is-child-requires : tie.Need-is-child-requires Inv-loop μ-loop
-is-child-requires c κs = search needs
-
-element-copy-out-if2 : tie.Need-element-copy-out-if2 Inv-loop μ-loop
-element-copy-out-if2 c = search needs
+element-copy-out-if1 : tie.Need-element-copy-out-if1 Inv-loop μ-loop
+element-copy-out-if1 c =
+    let c3 = c .before .before .before in
+    let c5 = c3 .before .before in
+    omega (arith, c .wide .ensures, c5 .pre (c3 .loop .i) (c .before .before .loop-test .taken))
 
 returns : tie.Need-returns Inv-loop μ-loop
 returns c =
-    let c3 = c .before .before .before in
-    let c6 = c3 .before .before .before in
-    let c7 = c6 .before in
-    passed-not (childMarked (c7 .args .marks .now)) (c7 .args .t1 .tickets) (c6 .loop .i)
-    (omega (arith, flat-long (c7 .args .t1) (_, c7 .good .0)))
-    (child-not (c7 .args .marks .now) (c6 .loop .i) (getD (c7 .args .t1 .tickets) (c6 .loop .i) free)
-    (sym (c3 .is-child .ensures) ∙ c .before .before .if1 .taken) (c .if2 .taken))
+    let c4 = c .before .before .before .before in
+    let c5 = c4 .before in
+    let c7 = c5 .before .before in
+    let marks = c7 .args .marks .now in
+    let children = c7 .args .children .now in
+    let i = c5 .loop .i in
+    λ tickets long listing.
+    listed-broken free (λ k. isChild (k .kind)) tickets 256 children (length children) listing (childMarked marks) long i (c4 .loop-test .taken)
+    (child-not marks (getD children i 0) (getD tickets (getD children i 0) free) (listing .passes i (c4 .loop-test .taken))
+    (λ e. c .if1 .taken (ap (λ (p : ℕ). getD marks p 0) (c .before .before .wide .ensures) ∙ e)))
 
 loop-less : tie.Need-loop-less Inv-loop μ-loop
 loop-less c = search needs
 
 loop-again : tie.Need-loop-again Inv-loop μ-loop
 loop-again c =
-    let c6 = c .before .before .before .before .before .before in
-    let c7 = c6 .before in (
+    let c5 = c .before .before .before .before .before in
+    let c7 = c5 .before .before in (
       omega arith,
-      below-more _ _ (c6 .loop .inv .1)
-          (child-ok (c7 .args .marks .now) (c6 .loop .i) (getD (c7 .args .t1 .tickets) (c6 .loop .i) free) (c .if2 .left)),
-    )
-
-loop-less-2 : tie.Need-loop-less-2 Inv-loop μ-loop
-loop-less-2 c = search needs
-
-loop-again-2 : tie.Need-loop-again-2 Inv-loop μ-loop
-loop-again-2 c =
-    let c4 = c .before .before .before .before in
-    let c5 = c4 .before in (
-      omega arith,
-      below-more _ _ (c4 .loop .inv .1)
-          (no-child (c5 .args .marks .now) (c4 .loop .i) (getD (c5 .args .t1 .tickets) (c4 .loop .i) free)
-          (sym (c .before .is-child .ensures) ∙ c .if1 .left)),
+      below-more _ _ (c5 .loop .inv .1) (ap (λ (p : ℕ). getD (c7 .args .marks .now) p 0) (sym (c .before .before .wide .ensures)) ∙ c .if1 .left),
     )
 
 returns-2 : tie.Need-returns-2 Inv-loop μ-loop
 returns-2 c =
-    let c1 = c .before in
-    let c2 = c1 .before in
-    passed-end (childMarked (c2 .args .marks .now)) (c2 .args .t1 .tickets) (c1 .loop .i)
-    (omega (arith, flat-long (c2 .args .t1) (_, c2 .good .0))) (c1 .loop .inv .1)
+    let c3 = c .before .before .before in
+    let marks = c3 .args .marks .now in
+    let children = c3 .args .children .now in
+    λ tickets long listing.
+    sym (listed-allAt free (λ k. isChild (k .kind)) tickets 256 children (length children) listing (childMarked marks) long
+    (λ j h. child-ok marks (getD children j 0) (getD tickets (getD children j 0) free) (c .before .loop .inv .1 j (omega (arith, h, c .loop-test .left))))
+    (λ p k e. no-child marks p k e))
 
 pub children-marked-spec : {M : Type 1} → statement M
 children-marked-spec =
@@ -85,14 +81,12 @@ children-marked-spec =
     Inv-loop
     μ-loop
     loop-holds
-    mul-k
-    element-copy-out-k
+    mul-wide
+    shared-slice-read-wide
+    wide-requires
     add-i
-    is-child-requires
-    element-copy-out-if2
+    element-copy-out-if1
     returns
     loop-less
     loop-again
-    loop-less-2
-    loop-again-2
     returns-2)

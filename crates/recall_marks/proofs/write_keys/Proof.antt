@@ -1,74 +1,87 @@
--- `write_keys`: the first i keys of the tickets are laid over what the array held; at the end that is all of them.
-use Prim.Native.Nat.{_-_, _≤_, _<_}
+-- `write_keys`: the keys of the first i listed recalls are written; at the end every place has its key.
+use Prim.Native.Nat.{ℕ, _-_, _≤_}
 use native.Mathlib.Omega.{arith}
-use mathlib.Core.Path.{_≡_, refl, sym, _∙_}
-use mathlib.Core.List.{map}
-use lib.ListN.{length, length-set, length-map}
+use mathlib.Core.Path.{sym, ap, subst}
+use lib.ListN.{length, length-replicate}
 use borrow.Author.Needs.{needs}
-use Rattle.lists.proofs.Front.{front, front-none, front-end}
-use Rattle.index.proofs.Laying.{flat-long}
-use Rattle.recall_marks.specs.Keys.{targetKey}
-use Rattle.recall_marks.proofs.KeySteps.{written}
+use Rattle.decode.specs.Places.{ticketsIn}
+use Rattle.decode.proofs.Places.{tickets-long}
+use Rattle.listing.proofs.Laws.{filled-none}
+use Rattle.recall_marks.proofs.KeySteps.{Written, written, all-written}
 use Rattle.recall_marks.proofs.write_keys.Statement.{statement}
 use Rattle.recall_marks.proofs.write_keys.Tie as tie
 
 abbrev Inv-loop : tie.InvT-loop
-Inv-loop numbers keys₀ f i₀ keys i =
-    (i ≤ 256) × ((length keys ≡ length keys₀) × (keys ≡ front i (map (targetKey numbers) (f .tickets)) keys₀))
+Inv-loop image numbers recalls keys₀ i₀ keys i = (i ≤ length recalls) × Written numbers (ticketsIn image) recalls i keys
 
 abbrev μ-loop : tie.MeasureT-loop
-μ-loop numbers keys₀ f i₀ keys i = 256 - i
+μ-loop image numbers recalls keys₀ i₀ keys i = length recalls - i
 
 loop-holds : tie.Need-loop-holds Inv-loop μ-loop
-loop-holds c = (omega arith, (refl, front-none _ _))
+loop-holds c =
+    let c4 = c .before .before .before .before in (
+      omega arith,
+      subst (Written (c4 .args .numbers .now) (ticketsIn (c4 .args .image .now)) (c4 .args .recalls .now) 0)
+          (sym (c4 .pre .1 .1 .0)) (filled-none 256 256 _ _),
+    )
 
-mul-k : tie.Need-mul-k Inv-loop μ-loop
-mul-k c = search needs
+mul-wide : tie.Need-mul-wide Inv-loop μ-loop
+mul-wide c = search needs
 
-element-copy-out-k : tie.Need-element-copy-out-k Inv-loop μ-loop
-element-copy-out-k c = search needs
+shared-slice-read-wide : tie.Need-shared-slice-read-wide Inv-loop μ-loop
+shared-slice-read-wide c = search needs
 
-target-key-requires : tie.Need-target-key-requires Inv-loop μ-loop
-target-key-requires c κs = search needs
-
-mul-keys : tie.Need-mul-keys Inv-loop μ-loop
-mul-keys c = search needs
-
-slice-write-keys : tie.Need-slice-write-keys Inv-loop μ-loop
-slice-write-keys c = omega (arith, c .before .before .before .loop .inv .1 .0, c .before .before .before .before .before .before .pre .1)
+wide-requires : tie.Need-wide-requires Inv-loop μ-loop
+wide-requires c κs = search needs
 
 add-i : tie.Need-add-i Inv-loop μ-loop
-add-i c = search needs
+add-i c = omega (arith, c .before .before .loop-test .taken, c .before .before .before .before .before .before .before .before .pre .1 .1 .1 .most)
+
+ticket-at-requires : tie.Need-ticket-at-requires Inv-loop μ-loop
+ticket-at-requires c κs =
+    let c3 = c .before .before .before in
+    let c8 = c3 .before .before .before .before .before in
+    (c8 .pre .0, omega (arith, c .wide .ensures, c8 .pre .1 .1 .1 .low (c3 .loop .i) (c .before .before .loop-test .taken)))
+
+target-key-requires : tie.Need-target-key-requires Inv-loop μ-loop
+target-key-requires c κs = c .before .before .before .before .before .before .before .before .before .pre .1 .0
+
+mul-keys : tie.Need-mul-keys Inv-loop μ-loop
+mul-keys c =
+    let c4 = c .before .before .before .before in
+    let c5 = c4 .before in
+    let c10 = c5 .before .before .before .before .before in
+    omega (arith, c .before .before .wide .ensures, c10 .pre .1 .1 .1 .low (c5 .loop .i) (c4 .loop-test .taken))
+
+slice-write-keys : tie.Need-slice-write-keys Inv-loop μ-loop
+slice-write-keys c =
+    let c4 = c .before .before .before .before in
+    let c5 = c4 .before in
+    let c10 = c5 .before .before .before .before .before in
+    omega (arith, c5 .loop .inv .1 .long, c .before .before .wide .ensures, c10 .pre .1 .1 .1 .low (c5 .loop .i) (c4 .loop-test .taken))
 
 loop-less : tie.Need-loop-less Inv-loop μ-loop
 loop-less c = search needs
 
 loop-again : tie.Need-loop-again Inv-loop μ-loop
 loop-again c =
-    let c3 = c .before .before .before in
-    let c6 = c3 .before .before .before in
-    let ks = c6 .args .t1 .tickets in
-    let i = c3 .loop .i in
-    let l : i < length ks = omega (arith, flat-long (c6 .args .t1) (_, c6 .good .0)) in (
+    let c4 = c .before .before .before .before in
+    let c5 = c4 .before in
+    let c10 = c5 .before .before .before .before .before in (
       omega arith,
-      (
-        length-set (c3 .loop .keys) i _ ∙ c3 .loop .inv .1 .0,
-        written (targetKey (c6 .args .numbers .now)) ks (c3 .loop .keys)
-            (c6 .args .keys .now) i _ l (c .target-key .ensures) (c3 .loop .inv .1 .1),
-      ),
+      written _ _ _ (c10 .pre .1 .1 .1) (c5 .loop .i) (c5 .loop .keys) (c5 .loop .inv .1) (c4 .loop-test .taken) _ _ _
+          (c .before .before .wide .ensures) (c .before .ticket-at .ensures) (c .target-key .ensures),
     )
 
 same-length : tie.Need-same-length Inv-loop μ-loop
-same-length c = omega (arith, c .before .loop .inv .1 .0)
+same-length c =
+    let c6 = c .before .before .before .before .before .before in
+    omega (arith, c .before .loop .inv .1 .long, ap length (c6 .pre .1 .1 .0), length-replicate {A = ℕ} 256 256)
 
 returns : tie.Need-returns Inv-loop μ-loop
 returns c =
-    let c1 = c .before in
-    let c4 = c1 .before .before .before in
-    let g = targetKey (c4 .args .numbers .now) in
-    let ks = c4 .args .t1 .tickets in
-    let l : length (map g ks) ≡ 256 = length-map ks g ∙ flat-long (c4 .args .t1) (_, c4 .good .0) in
-    c1 .loop .inv .1 .1 ∙ front-end (c1 .loop .i) (map g ks) (c4 .args .keys .now) (omega arith) (c4 .pre .1 ∙ sym l)
+    let c6 = c .before .before .before .before .before .before in
+    all-written _ _ _ (c6 .pre .1 .1 .1) (tickets-long (c6 .args .image .now)) (c .before .loop .i) (c .before .loop .keys) (omega arith) (c .before .loop .inv .1)
 
 pub write-keys-spec : {M : Type 1} → statement M
 write-keys-spec =
@@ -77,12 +90,14 @@ write-keys-spec =
     Inv-loop
     μ-loop
     loop-holds
-    mul-k
-    element-copy-out-k
+    mul-wide
+    shared-slice-read-wide
+    wide-requires
+    add-i
+    ticket-at-requires
     target-key-requires
     mul-keys
     slice-write-keys
-    add-i
     loop-less
     loop-again
     same-length

@@ -3,7 +3,7 @@ use native.Mathlib.Omega.{arith}
 use mathlib.Core.Path.{sym, _∙_}
 use lib.ListN.{List·getD-eq-default}
 use borrow.Author.Needs.{needs}
-use Rattle.recall_order.proofs.OneRecall.{getD-any}
+use Rattle.lists.proofs.Reading.{any-default}
 use Rattle.recall_order.proofs.note_of.Statement.{statement}
 use Rattle.recall_order.proofs.note_of.Tie as tie
 
@@ -22,7 +22,7 @@ wide-requires c κs = search needs
 returns-2 : tie.Need-returns-2
 returns-2 c =
     let c4 = c .before .before .before .before in
-    c .wide .ensures ∙ getD-any (c4 .args .notes .now) (c4 .args .key) 0 256 (omega (arith, c4 .pre, c .before .before .if1 .left))
+    c .wide .ensures ∙ any-default (c4 .args .notes .now) (c4 .args .key) 0 256 (omega (arith, c4 .pre, c .before .before .if1 .left))
 
 pub note-of-spec : {M : Type 1} → statement M
 note-of-spec = tie.close (tie.spec returns mul-wide shared-slice-read-wide wide-requires returns-2)
