@@ -31,12 +31,12 @@ no-grant e = go (case (underStore e))
 
 module _ (tickets : List Ticket) (numbers : List ℕ) where
   -- as the code finds it
-  pub has-at : (e : Entry) (p : ℕ) → p ≡ placeOf numbers e → (b : Bool) → b ≡ grantOk e (getD tickets p free) → hasGrant tickets numbers e ≡ b
+  pub has-at : (e : Entry) (p : ℕ) → p ≡ placeOf numbers e → (k : Ticket) → k ≡ getD tickets p free → (b : Bool) → b ≡ grantOk e k → hasGrant tickets numbers e ≡ b
   unfolding hasGrant
-  has-at e p q b r = ap (λ (x : ℕ). grantOk e (getD tickets x free)) (sym q) ∙ sym r
+  has-at e p q k z b r = ap (λ (x : ℕ). grantOk e (getD tickets x free)) (sym q) ∙ ap (grantOk e) (sym z) ∙ sym r
 
   pub has-none : (e : Entry) (p : ℕ) → p ≡ placeOf numbers e → length tickets ≤ p → hasGrant tickets numbers e ≡ false
-  has-none e p q h = has-at e p q false (sym (ap (grantOk e) (List·getD-eq-default tickets free h) ∙ no-grant e))
+  has-none e p q h = has-at e p q free (sym (List·getD-eq-default tickets free h)) false (sym (no-grant e))
 
 module _ (tickets : List Ticket) (numbers : List ℕ) (es : List Entry) where
   abbrev at : ℕ → Entry
@@ -60,22 +60,32 @@ module _ (tickets : List Ticket) (numbers : List ℕ) (es : List Entry) where
     };
   }
 
-  module _ (i : ℕ) (notes : List ℕ) (so : SoFar i notes) where
+  -- one more: what the code reads is the entry at i
+  module _ (i : ℕ) (notes : List ℕ) (so : SoFar i notes) (read : Entry) (this : read ≡ at i) where
     later : (p j : ℕ) → Noter numbers es i p j → Noter numbers es (i + 1) p j
     later p j n = record { low = omega (arith, n .low); live = n .live; place = n .place }
 
-    pub noted-skip : at i .live ≡ false → SoFar (i + 1) notes
+    pub noted-skip : read .live ≡ false → SoFar (i + 1) notes
     noted-skip d = record {
-      grants = below-more (λ j. at j .live ≡ true → has (at j) ≡ true) i (so .grants) (λ l. contradiction l d);
+      grants = below-more (λ j. at j .live ≡ true → has (at j) ≡ true) i (so .grants) (λ l. contradiction l gone);
       kept = record {
         long = so .kept .long;
-        noted = below-more (λ j. at j .live ≡ true → getD notes (placeOf numbers (at j)) 256 ≡ j) i (so .kept .noted) (λ l. contradiction l d);
+        noted = below-more (λ j. at j .live ≡ true → getD notes (placeOf numbers (at j)) 256 ≡ j) i (so .kept .noted) (λ l. contradiction l gone);
         noter = λ p ne. later p (getD notes p 256) (so .kept .noter p ne);
       };
     }
+      where
+        gone : at i .live ≡ false
+        gone = ap (λ (e : Entry). e .live) (sym this) ∙ d
 
-    module _ (h : i < length es) (live : at i .live ≡ true) (p : ℕ) (here : p ≡ placeOf numbers (at i)) where
-      pub noted-bad : has (at i) ≡ false → (after : List ℕ) → Noting tickets numbers es after false
+    module _ (h : i < length es) (lives : read .live ≡ true) (p : ℕ) (place : p ≡ placeOf numbers read) where
+      live : at i .live ≡ true
+      live = ap (λ (e : Entry). e .live) (sym this) ∙ lives
+
+      here : p ≡ placeOf numbers (at i)
+      here = place ∙ ap (placeOf numbers) this
+
+      pub noted-bad : has read ≡ false → (after : List ℕ) → Noting tickets numbers es after false
       noted-bad b after = record {
         same = sym (cannot-pass (everyLive has es && namesApart numbers es) bad);
         noted = λ e. no-true e;
@@ -84,7 +94,8 @@ module _ (tickets : List Ticket) (numbers : List ℕ) (es : List Entry) where
           bad : (everyLive has es && namesApart numbers es) ≡ true → ⊥
           bad e =
               contradiction
-              (implies-elim (at i .live) (has (at i)) (all-elim noEntry (λ x. implies (x .live) (has x)) es (and-l (everyLive has es) (namesApart numbers es) e) i h) live) b
+              (implies-elim (at i .live) (has (at i)) (all-elim noEntry (λ x. implies (x .live) (has x)) es (and-l (everyLive has es) (namesApart numbers es) e) i h) live)
+              (ap has (sym this) ∙ b)
 
       pub noted-twice : getD notes p 256 < 256 → (after : List ℕ) → Noting tickets numbers es after false
       unfolding namesApart
@@ -102,7 +113,7 @@ module _ (tickets : List Ticket) (numbers : List ℕ) (es : List Entry) where
               (noTwo-elim noEntry (λ x. x .live) (λ x y. eqb (placeOf numbers x) (placeOf numbers y)) es (and-r (everyLive has es) (namesApart numbers es) e)
               (getD notes p 256) i (first .low) h (first .live) live)
 
-      module _ (small : i < 256) (low : p < 256) (grant : has (at i) ≡ true) (none : 256 ≤ getD notes p 256) where
+      module _ (small : i < 256) (low : p < 256) (grant : has read ≡ true) (none : 256 ≤ getD notes p 256) where
         -- what is no entry's place is no note
         clear : getD notes p 256 ≡ 256
         clear = go (case (eqb (getD notes p 256) 256))
@@ -119,7 +130,7 @@ module _ (tickets : List Ticket) (numbers : List ℕ) (es : List Entry) where
 
         pub noted-more : SoFar (i + 1) (set notes p i)
         noted-more = record {
-          grants = below-more (λ j. at j .live ≡ true → has (at j) ≡ true) i (so .grants) (λ l. grant);
+          grants = below-more (λ j. at j .live ≡ true → has (at j) ≡ true) i (so .grants) (λ l. ap has (sym this) ∙ grant);
           kept = record {
             long = length-set notes p i ∙ so .kept .long;
             noted = below-more (λ j. at j .live ≡ true → getD (set notes p i) (placeOf numbers (at j)) 256 ≡ j) i before

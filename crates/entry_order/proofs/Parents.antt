@@ -21,12 +21,13 @@ use Rattle.tables.specs.Order.{everyEntry, entryNamesOk, underStore, parentEntr
 use Rattle.tables.proofs.ByPlace.{found-name}
 use Rattle.chains.specs.Walk.{endFrom}
 use Rattle.index.specs.Places.{placeIn, Numbered, Noted}
+use Rattle.listing.specs.Listing.{isHung}
 use Rattle.entry_notes.specs.Notes.{noteOf, entryBy}
 use Rattle.entry_notes.proofs.Grants.{entryAt}
 use Rattle.entry_notes.proofs.Laws.{entry-here, entry-noted}
 use Rattle.chain_ends.specs.Ends.{allEnd}
 use Rattle.chain_ends.proofs.Settling.{end-stops, end-climbs}
-use Rattle.entry_order.specs.Parents.{isHung, hasParent, upOf}
+use Rattle.entry_order.specs.Parents.{hasParent, upOf}
 
 -- "A parent entry is live, has the pass on right and contains the entry's sheets and rights."
 abbrev pub parentsOk : Tables → Bool

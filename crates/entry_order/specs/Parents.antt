@@ -1,12 +1,12 @@
 -- The parents of entries by places.
 use Prim.Native.Nat.{ℕ}
 use mathlib.Core.Path.{_≡_}
-use mathlib.Core.Bool.{Bool, true, not, _&&_, cond}
+use mathlib.Core.Bool.{Bool, true, cond}
 use mathlib.Core.List.{List, map}
 use Rattle.lists.specs.Tests.{implies}
 use Rattle.lists.specs.Lists.{all}
 use Rattle.tables.specs.declared.Entry.{Entry}
-use Rattle.tables.specs.Order.{underStore, parentEntryOk}
+use Rattle.tables.specs.Order.{parentEntryOk}
 use Rattle.listing.specs.Listing.{isHung}
 use Rattle.entry_notes.specs.Notes.{noteOf, entryBy}
 
