@@ -1,21 +1,18 @@
 -- What the batch leaves where it is refused, and where all of it was served.
 use Prim.Native.Nat.{ℕ, _*_, _/_, _%_}
 use native.Mathlib.Omega.{arith}
-use mathlib.Core.Path.{_≡_, sym, ap, subst, _∙_}
+use mathlib.Core.Path.{_≡_, sym, _∙_}
 use mathlib.Core.Bool.{Bool, true, false, not}
 use mathlib.Core.List.{List}
 use lib.Dec.{eqb}
 use lib.ListN.{length}
 use borrow.Author.Tests.{eqb-true, eqb-false, eq-eqb, ne-eqb, not-true, not-false}
 use Rattle.lists.proofs.Tests.{Case, pass, fail, case, and-l, and-r, and-false}
-use Rattle.tables.specs.declared.Tables.{Tables}
-use Rattle.tables.specs.Lookup.{Sized}
 use Rattle.tables.specs.Order.{inOrder}
 use Rattle.machine.specs.Refusal.{_when_else_}
-use Rattle.image.specs.Image.{encode, decode, isImage}
-use Rattle.image.proofs.RoundTrip.{decode-encode}
+use Rattle.image.specs.Image.{decode, isImage}
 use Rattle.batch.specs.Numbers.{countOf}
-use Rattle.batch.specs.Sequence.{startWith, Whole, AllServed}
+use Rattle.batch.specs.Sequence.{Whole, AllServed}
 use Rattle.batch.specs.Batch.{Buffers, lengthsFit, lengthsOk, tablesOk, batchRefusal, startOf, allServed, untouched, batch, Leaves}
 
 -- ---- a test in the code, by what its routine ensures
@@ -103,22 +100,16 @@ is-served : (b : Buffers) → lengthsOk b ≡ true → tablesOk (b .tables) ≡ 
 unfolding batch batchRefusal _when_else_
 is-served b h o = rw (h, o)
 
-pub leaves-0 : (b : Buffers) → lengthsOk b ≡ true → tablesOk (b .tables) ≡ true → (t : Tables) → Sized t
-    → (start : Tables) → start ≡ decode (b .tables) → (tables′ store′ sheets′ answers′ : List ℕ)
-    → AllServed (startWith start (b .store) (b .sheets) (b .requests)) (countOf (b .requests)) t store′ sheets′ answers′
-    → tables′ ≡ encode t → Leaves b 0 tables′ store′ sheets′ answers′
+pub leaves-0 : (b : Buffers) → lengthsOk b ≡ true → tablesOk (b .tables) ≡ true → (tables′ store′ sheets′ answers′ : List ℕ)
+    → AllServed (startOf b) (countOf (b .requests)) tables′ store′ sheets′ answers′ → Leaves b 0 tables′ store′ sheets′ answers′
 unfolding allServed
-leaves-0 b h o t sized start read tables′ store′ sheets′ answers′ served e =
+leaves-0 b h o tables′ store′ sheets′ answers′ all =
     let is = is-served b h o in
-    let all : AllServed (startOf b) (countOf (b .requests)) t store′ sheets′ answers′ =
-    subst
-    (λ (x : Tables). AllServed (startWith x (b .store) (b .sheets) (b .requests)) (countOf (b .requests)) t store′ sheets′ answers′)
-    read served in
     record {
       result = λ i. is i .result;
-      tables = e ∙ ap encode (all .tables) ∙ λ i. is i .tables;
+      tables = all .tables ∙ λ i. is i .tables;
       store = all .store ∙ λ i. is i .store;
       sheets = all .sheets ∙ λ i. is i .sheets;
       answers = all .answers ∙ λ i. is i .answers;
-      decoded = λ z. ap decode e ∙ decode-encode t sized ∙ all .tables;
+      decoded = λ z. all .decoded;
     }

@@ -5,20 +5,22 @@ use native.Mathlib.Omega.{arith}
 use mathlib.Core.Path.{_≡_, refl, sym, ap, subst, _∙_}
 use mathlib.Core.Bool.{Bool, true}
 use mathlib.Core.List.{List}
-use lib.ListN.{length, take, drop}
+use lib.ListN.{length, getD, take, drop}
 use borrow.Rule.Slice.PartMut.{putMid}
 use Rattle.lists.proofs.PartLaws.{Written, written-none, written-next, written-more, written-all}
 use Rattle.tables.specs.declared.Tables.{Tables}
 use Rattle.tables.specs.Order.{inOrder, noFarChild}
-use Rattle.tables.specs.Lookup.{Sized}
-use Rattle.machine.specs.declared.{Request.Request, Served.Served}
+use Rattle.machine.specs.declared.{Request.Request, Answer.Answer}
 use Rattle.machine.specs.State.{State, Outcome, sheetAt}
 use Rattle.machine.specs.Step.{step}
 use Rattle.preservation.proofs.StepKeepsOrder.{PassesTests, step-keeps-tests}
+use Rattle.image.specs.Image.{encode, decode, isImage}
+use Rattle.image.proofs.RoundTrip.{encode-decode, encode-is-image}
+use Rattle.lookup.proofs.Laws.{decoded-sized}
 use Rattle.served.specs.Outcomes.{stateOf}
-use Rattle.serve.specs.Contract.{HandsBack}
+use Rattle.lent.specs.Contract.{LeavesLent}
 use Rattle.batch.specs.Numbers.{requestAt, answerNumbers}
-use Rattle.batch.specs.Sequence.{Start, met, outcomeAt, AllServed}
+use Rattle.batch.specs.Sequence.{Start, met, outcomeAt, startWith, AllServed}
 use Rattle.batch.proofs.Numbers.{answer-long}
 
 -- the i-th request's own sheet buffer and answer
@@ -28,29 +30,31 @@ sheetPart b i = outcomeAt b i .state .sheet
 abbrev pub answerPart : Start → ℕ → List ℕ
 answerPart b i = answerNumbers (outcomeAt b i .answer)
 
-pub record Going (b : Start) (n : ℕ) (room : List ℕ) (keeps : Bool) (i : ℕ) (t : Tables) (store′ sheets′ answers′ : List ℕ) (sure : Bool) : Type 0 where
+pub record Going (b : Start) (n : ℕ) (room : List ℕ) (keeps : Bool) (i : ℕ) (image store′ sheets′ answers′ : List ℕ) (sure : Bool) : Type 0 where
   pub inside : i ≤ n
-  pub tables : t ≡ met b i .tables
+  pub tables : image ≡ encode (met b i .tables)
+  pub decoded : decode image ≡ met b i .tables
   pub store : store′ ≡ met b i .store
   pub long : length store′ ≡ 16384
   pub sheets : Written 64 (sheetPart b) (b .sheets) i sheets′
   pub answers : Written 3 (answerPart b) room i answers′
-  pub ordered : sure ≡ true → inOrder t ≡ true
+  pub ordered : sure ≡ true → inOrder (decode image) ≡ true
   pub kept : keeps ≡ true → PassesTests (met b i .tables)
 
-pub begins : (b : Start) (n : ℕ) (room : List ℕ) (keeps : Bool) → length (b .store) ≡ 16384 → Sized (b .tables)
-    → inOrder (b .tables) ≡ true → (keeps ≡ true → noFarChild (b .tables) ≡ true)
-    → Going b n room keeps 0 (b .tables) (b .store) (b .sheets) room true
+pub begins : (image store sheets requests : List ℕ) (n : ℕ) (room : List ℕ) (keeps : Bool) → ((j : ℕ) → getD image j 0 < 256) → isImage image ≡ true
+    → length store ≡ 16384 → inOrder (decode image) ≡ true → (keeps ≡ true → noFarChild (decode image) ≡ true)
+    → Going (startWith (decode image) store sheets requests) n room keeps 0 image store sheets room true
 unfolding met
-begins b n room keeps long sized order far = record {
+begins image store sheets requests n room keeps small is long order far = record {
   inside = omega arith;
-  tables = refl;
+  tables = sym (encode-decode image small is);
+  decoded = refl;
   store = refl;
   long = long;
-  sheets = written-none 64 (sheetPart b) (b .sheets);
-  answers = written-none 3 (answerPart b) room;
+  sheets = written-none 64 (sheetPart (startWith (decode image) store sheets requests)) sheets;
+  answers = written-none 3 (answerPart (startWith (decode image) store sheets requests)) room;
   ordered = λ e. order;
-  kept = λ e. record { sized = sized; order = order; noFar = far e };
+  kept = λ e. record { sized = decoded-sized image; order = order; noFar = far e };
 }
 
 met-sheet : (b : Start) (i : ℕ) → met b i .sheet ≡ sheetAt i (b .sheets)
@@ -58,13 +62,18 @@ unfolding met
 met-sheet b zero = refl
 met-sheet b (suc i) = refl
 
-module _ (b : Start) (n : ℕ) (room : List ℕ) (keeps : Bool) (i : ℕ) (t : Tables) (store sheets answers : List ℕ) (sure : Bool)
-    (g : Going b n room keeps i t store sheets answers sure) where
-  pub ends : n ≤ i → length (b .sheets) ≡ 64 * n → length room ≡ 3 * n → AllServed b n t store sheets answers
+module _ (b : Start) (n : ℕ) (room : List ℕ) (keeps : Bool) (i : ℕ) (image store sheets answers : List ℕ) (sure : Bool)
+    (g : Going b n room keeps i image store sheets answers sure) where
+  -- it stays an image
+  pub still-image : isImage image ≡ true
+  still-image = ap isImage (g .tables) ∙ encode-is-image (met b i .tables)
+
+  pub ends : n ≤ i → length (b .sheets) ≡ 64 * n → length room ≡ 3 * n → AllServed b n image store sheets answers
   ends h a c =
       let e : i ≡ n = omega (arith, g .inside) in
       record {
-        tables = g .tables ∙ ap (λ (m : ℕ). met b m .tables) e;
+        tables = g .tables ∙ ap (λ (m : ℕ). encode (met b m .tables)) e;
+        decoded = g .decoded ∙ ap (λ (m : ℕ). met b m .tables) e;
         store = g .store ∙ ap (λ (m : ℕ). met b m .store) e;
         sheets = written-all 64 (sheetPart b) (b .sheets) i sheets (g .sheets) n e a;
         answers = written-all 3 (answerPart b) room i answers (g .answers) n e c;
@@ -75,14 +84,14 @@ module _ (b : Start) (n : ℕ) (room : List ℕ) (keeps : Bool) (i : ℕ) (t : T
   unfolding sheetAt
   lent-sheet k e = written-next 64 (sheetPart b) (b .sheets) i sheets (g .sheets) (64 * i) k refl e
 
-  module _ (k : ℕ) (whole : k ≡ 64) (r : Request) (is : r ≡ requestAt i (b .requests)) (d : Served) (store′ sheet′ : List ℕ)
-      (hands : HandsBack (step (stateOf t store (take k (drop (64 * i) sheets))) r) d store′ sheet′) where
-    met-here : stateOf t store (take k (drop (64 * i) sheets)) ≡ met b i
-    met-here j = record { tables = g .tables j; store = g .store j; sheet = (lent-sheet k whole ∙ sym (met-sheet b i)) j }
+  module _ (k : ℕ) (whole : k ≡ 64) (r : Request) (is : r ≡ requestAt i (b .requests)) (a : Answer) (image′ store′ sheet′ : List ℕ)
+      (leaves : LeavesLent (step (stateOf (decode image) store (take k (drop (64 * i) sheets))) r) a image′ store′ sheet′) where
+    met-here : stateOf (decode image) store (take k (drop (64 * i) sheets)) ≡ met b i
+    met-here j = record { tables = g .decoded j; store = g .store j; sheet = (lent-sheet k whole ∙ sym (met-sheet b i)) j }
 
-    here : HandsBack (outcomeAt b i) d store′ sheet′
+    here : LeavesLent (outcomeAt b i) a image′ store′ sheet′
     unfolding outcomeAt
-    here = subst (λ (o : Outcome). HandsBack o d store′ sheet′) (λ j. step (met-here j) (is j)) hands
+    here = subst (λ (o : Outcome). LeavesLent o a image′ store′ sheet′) (λ j. step (met-here j) (is j)) leaves
 
     left : stateOf (outcomeAt b i .state .tables) (outcomeAt b i .state .store) (sheetAt (suc i) (b .sheets)) ≡ met b (i + 1)
     unfolding met outcomeAt
@@ -94,19 +103,20 @@ module _ (b : Start) (n : ℕ) (room : List ℕ) (keeps : Bool) (i : ℕ) (t : T
         subst PassesTests (ap (λ (s : State). s .tables) left) (step-keeps-tests (met b i) (requestAt i (b .requests)) p)
 
     pub next : (k′ : ℕ) (answer′ : List ℕ) → length store′ ≡ 16384 → length sheet′ ≡ 64 → i < n → length (b .sheets) ≡ 64 * n
-        → length room ≡ 3 * n → k′ ≡ 3 → answer′ ≡ answerNumbers (d .answer)
-        → Going b n room keeps (i + 1) (d .tables) store′ (putMid (64 * i) k sheets sheet′) (putMid (3 * i) k′ answers answer′) keeps
-    next k′ answer′ long wide more a c three put =
-        let tables′ : d .tables ≡ met b (i + 1) .tables = here .tables ∙ ap (λ (s : State). s .tables) left in
+        → length room ≡ 3 * n → k′ ≡ 3 → answer′ ≡ answerNumbers a
+        → Going b n room keeps (i + 1) image′ store′ (putMid (64 * i) k sheets sheet′) (putMid (3 * i) k′ answers answer′) keeps
+    next k′ answer′ long wide more x y three put =
+        let read : decode image′ ≡ met b (i + 1) .tables = here .decoded ∙ ap (λ (s : State). s .tables) left in
         record {
           inside = omega arith;
-          tables = tables′;
+          tables = here .tables ∙ ap (λ (s : State). encode (s .tables)) left;
+          decoded = read;
           store = here .store ∙ ap (λ (s : State). s .store) left;
           long = long;
           sheets = written-more 64 (sheetPart b) (b .sheets) i sheets (g .sheets) (64 * i) k sheet′ refl whole
               (ap length (sym (here .sheet)) ∙ wide) (omega arith) (here .sheet);
           answers = written-more 3 (answerPart b) room i answers (g .answers) (3 * i) k′ answer′ refl three (answer-long (outcomeAt b i .answer))
               (omega arith) (put ∙ ap answerNumbers (here .answer));
-          ordered = λ e. subst (λ (x : Tables). inOrder x ≡ true) (sym tables′) (still-kept (g .kept e) .order);
+          ordered = λ e. subst (λ (x : Tables). inOrder x ≡ true) (sym read) (still-kept (g .kept e) .order);
           kept = λ e. still-kept (g .kept e);
         }

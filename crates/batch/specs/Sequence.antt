@@ -8,6 +8,7 @@ use Rattle.lists.specs.Parts.{joined}
 use Rattle.tables.specs.declared.Tables.{Tables}
 use Rattle.machine.specs.State.{State, Outcome, sheetAt}
 use Rattle.machine.specs.Step.{step}
+use Rattle.image.specs.Image.{encode, decode}
 use Rattle.served.specs.Outcomes.{stateOf}
 use Rattle.batch.specs.Numbers.{requestAt, answerNumbers}
 
@@ -47,9 +48,10 @@ pub record Whole (n : ℕ) (store′ sheets′ requests′ answers′ : List ℕ
   pub requests : length requests′ ≡ 9 * n
   pub answers : length answers′ ≡ 3 * n
 
--- what n requests leave, field by field
-pub record AllServed (b : Start) (n : ℕ) (t : Tables) (store′ sheets′ answers′ : List ℕ) : Type 0 where
-  pub tables : t ≡ met b n .tables
+-- what n requests leave, field by field, the tables as their image
+pub record AllServed (b : Start) (n : ℕ) (tables′ store′ sheets′ answers′ : List ℕ) : Type 0 where
+  pub tables : tables′ ≡ encode (met b n .tables)
+  pub decoded : decode tables′ ≡ met b n .tables
   pub store : store′ ≡ met b n .store
   pub sheets : sheets′ ≡ sheetsOf b n
   pub answers : answers′ ≡ answersOf b n

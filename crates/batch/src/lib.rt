@@ -1,20 +1,20 @@
-// A batch of requests over lent buffers. The image is decoded and tested for order once; the requests are then served one after the
-// other, and the image is written once. `serve` asks nothing of its caller.
+// A batch of requests over lent buffers. The image is tested for order once; the requests are then served one after the other, on the
+// image where it lies. `serve` asks nothing of its caller.
 ghost use Prim.Native.Nat.{_≤_};
 ghost use mathlib.Core.Path.{_≡_};
 ghost use mathlib.Core.Bool.{true};
 ghost use lib.ListN.{length};
 ghost use Rattle.tables.specs.Order.{inOrder, noFarChild};
 ghost use Rattle.machine.specs.Step.{step};
+ghost use Rattle.image.specs.Image.{decode, isImage};
 ghost use Rattle.served.specs.Outcomes.{stateOf};
-ghost use Rattle.serve.specs.Contract.{Lengths, HandsBack};
+ghost use Rattle.serve.specs.Contract.{Lengths};
+ghost use Rattle.lent.specs.Contract.{LeavesLent};
 ghost use Rattle.batch.specs.Numbers.{requestIn, countOf, answerNumbers};
 ghost use Rattle.batch.specs.Sequence.{startWith, Whole, AllServed};
 ghost use Rattle.batch.specs.Batch.{lengthsFit, buffersOf, Leaves};
 use machine::Answer;
 use machine::Request;
-use machine::Served;
-use tables::Tables;
 
 // Bytes of the tables' image, of the store and of a sheet; numbers of a request and of an answer.
 const TABLES: usize = 11328;
@@ -53,32 +53,40 @@ fn put_answer(numbers: &mut [u16], a: Answer)
     numbers[2] = a.recipient;
 }
 
-// The step. Where the tables are known to be in order, they are not tested again.
-fn serve_one(t: Tables, store: &mut [u8], sheet: &mut [u8], r: Request, sure: bool) -> Served
-    requires { ⌜ Lengths (now store) (now sheet) × (sure ≡ true → inOrder t ≡ true) ⌝ }
-    ensures { λ d. ⌜ HandsBack (step (stateOf t (now (store .entry)) (now (sheet .entry))) r) d (now (store .exit)) (now (sheet .exit)) ⌝ }
+// The step on lent tables. Where they are known to be in order, they are not tested again.
+fn serve_one(
+    tables: &mut [u8],
+    store: &mut [u8],
+    sheet: &mut [u8],
+    r: Request,
+    sure: bool,
+) -> Answer
+    requires { ⌜ (isImage (now tables) ≡ true) × (Lengths (now store) (now sheet) × (sure ≡ true → inOrder (decode (now tables)) ≡ true)) ⌝ }
+    ensures { λ a. ⌜ LeavesLent (step (stateOf (decode (now (tables .entry))) (now (store .entry)) (now (sheet .entry))) r) a (now (tables .exit)) (now (store .exit)) (now (sheet .exit)) ⌝ }
 {
     if sure {
-        return serve::request(t, store, sheet, r);
+        return lent::request(tables, store, sheet, r);
     }
-    step::step(t, store, sheet, r)
+    if !order::image_in_order(tables) {
+        return lent::plain(14);
+    }
+    lent::request(tables, store, sheet, r)
 }
 
 // The requests one after the other, from tables in order. The first needs no other test of that. Nor do those behind it where `keeps`
 // says that the tables stay in order.
 fn serve_all(
-    start: Tables,
+    tables: &mut [u8],
     store: &mut [u8],
     sheets: &mut [u8],
     requests: &[u16],
     answers: &mut [u16],
     keeps: bool,
-) -> Tables
-    requires { ⌜ Whole (countOf (now requests)) (now store) (now sheets) (now requests) (now answers) × (inOrder start ≡ true × (keeps ≡ true → noFarChild start ≡ true)) ⌝ }
-    ensures { λ t. ⌜ AllServed (startWith start (now (store .entry)) (now (sheets .entry)) (now (requests .entry))) (countOf (now (requests .entry))) t (now (store .exit)) (now (sheets .exit)) (now (answers .exit)) ⌝ }
+)
+    requires { ⌜ (isImage (now tables) ≡ true) × (Whole (countOf (now requests)) (now store) (now sheets) (now requests) (now answers) × (inOrder (decode (now tables)) ≡ true × (keeps ≡ true → noFarChild (decode (now tables)) ≡ true))) ⌝ }
+    ensures { λ _. ⌜ AllServed (startWith (decode (now (tables .entry))) (now (store .entry)) (now (sheets .entry)) (now (requests .entry))) (countOf (now (requests .entry))) (now (tables .exit)) (now (store .exit)) (now (sheets .exit)) (now (answers .exit)) ⌝ }
 {
     let n = requests.len() / REQUEST;
-    let mut t = start;
     let mut sure = true;
     let mut i: usize = 0;
     while i < n {
@@ -86,16 +94,13 @@ fn serve_all(
         let r = request_in(&requests[from..]);
         let at = SHEET * i;
         let end = at + SHEET;
-        let d = serve_one(t, store, &mut sheets[at..end], r, sure);
-        t = d.tables;
-        let a = d.answer;
+        let a = serve_one(tables, store, &mut sheets[at..end], r, sure);
         let into = ANSWER * i;
         let upto = into + ANSWER;
         put_answer(&mut answers[into..upto], a);
         sure = keeps;
         i = i + 1;
     }
-    t
 }
 
 // Do the lengths go with one number of requests?
@@ -125,13 +130,14 @@ fn lengths_ok(tables: usize, store: usize, sheets: usize, requests: usize, answe
 }
 
 // Is it known that the tables stay in order? For one request nobody has to know.
-fn stays_in_order(t: Tables, numbers: usize) -> bool
-    ensures { λ r. ⌜ (r ≡ true → noFarChild t ≡ true) ⌝ }
+fn stays_in_order(tables: &[u8], numbers: usize) -> bool
+    requires { ⌜ length (now tables) ≡ 11328 ⌝ }
+    ensures { λ r. ⌜ (r ≡ true → noFarChild (decode (now (tables .entry))) ≡ true) ⌝ }
 {
     if numbers <= REQUEST {
         return false;
     }
-    order::no_far_child(t)
+    order::no_far_child(tables)
 }
 
 // 13, 14, or the requests one after the other. A batch that is refused changes nothing.
@@ -156,12 +162,10 @@ pub fn serve(
     if !decode::is_image(tables) {
         return 14;
     }
-    let t = decode::tables(tables);
-    if !order::in_order(t) {
+    if !order::image_in_order(tables) {
         return 14;
     }
-    let keeps = stays_in_order(t, requests.len());
-    let left = serve_all(t, store, sheets, requests, answers, keeps);
-    encode::tables(tables, left);
+    let keeps = stays_in_order(tables, requests.len());
+    serve_all(tables, store, sheets, requests, answers, keeps);
     0
 }

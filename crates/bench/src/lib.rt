@@ -61,12 +61,11 @@ pub extern "C" fn bench_order(tables: &[u8], n: u32) -> bool {
     if tables.len() != TABLES {
         return false;
     }
-    let t = decode::tables(tables);
     let mut good = false;
     let mut i: u32 = 0;
     while i < n {
         i = i + 1;
-        good = order::in_order(t);
+        good = order::image_in_order(tables);
     }
     good
 }

@@ -85,13 +85,16 @@ pub extern "C" fn dock_check(
     if !decode::is_image(tables) {
         return 14;
     }
-    let t = decode::tables(tables);
+    if !order::image_in_order(tables) {
+        return 14;
+    }
     let n = Name {
         pad: pad,
         program: program,
         number: number,
     };
-    step::check(t, n, sheet, right)
+    let e = lookup::entry(tables, n);
+    dock::check(e, sheet as usize, right)
 }
 
 // Are the tables in order? 0, 13 or 14.
@@ -105,8 +108,7 @@ pub extern "C" fn dock_in_order(tables: &[u8]) -> u16
     if !decode::is_image(tables) {
         return 14;
     }
-    let t = decode::tables(tables);
-    if !order::in_order(t) {
+    if !order::image_in_order(tables) {
         return 14;
     }
     0

@@ -1,43 +1,48 @@
-use Prim.Native.Nat.{ℕ, _+_, _-_, _*_, _≤_, _<_}
-use mathlib.Core.Path.{_≡_, refl, sym, ap, subst, _∙_}
 use native.Mathlib.Omega.{arith}
+use mathlib.Core.Path.{ap, _∙_}
 use borrow.Author.Needs.{needs}
-use lib.ListN.{length, getD, set}
+use Rattle.tables.specs.Order.{inOrder}
+use Rattle.tables.proofs.Fits.{tables-fit, tables-sized}
+use Rattle.machine.specs.Step.{serve}
+use Rattle.served.specs.Outcomes.{stateOf}
+use Rattle.lent.proofs.Steps.{image-whole, by-value}
 use Rattle.lent.proofs.change.Statement.{statement}
 use Rattle.lent.proofs.change.Tie as tie
-use Rattle.lent.proofs.change.Reads as reads
-use Rattle.lent.proofs.change.Lts as lts
-use Rattle.decode.proofs.tables.Reads as tables-reads
 use Rattle.encode.proofs.tables.Reads as tables-reads′
-use Rattle.serve.proofs.request.Reads as request-reads
 
--- src/lib.rt:58:9
 tables-requires : tie.Need-tables-requires
-tables-requires c κs = search needs
+tables-requires c κs =
+    let c4 = c .before .before .before .before in
+    omega (arith, image-whole (c4 .args .tables .now) (c4 .pre .is))
 
--- src/lib.rt:59:9
 request-requires : tie.Need-request-requires
-request-requires c κs = search needs
+request-requires c κs =
+    let c7 = c .before .before .before .before .before .before .before in
+    (c7 .pre .lengths, ap inOrder (c .before .before .tables .ensures) ∙ c7 .pre .order)
 
--- src/lib.rt:61:5
 tables-requires-2 : tie.Need-tables-requires-2
-tables-requires-2 c κs = search needs
+tables-requires-2 c κs =
+    let c14 = c .before .before .before .before .before .before .before .before .before .before .before .before .before .before in
+    image-whole (c14 .args .tables .now) (c14 .pre .is)
 
--- src/lib.rt:54:1
 same-length : tie.Need-same-length
 same-length c = search needs
 
--- src/lib.rt:54:1
 same-length-2 : tie.Need-same-length-2
 same-length-2 c = search needs
 
--- src/lib.rt:54:1
 same-length-3 : tie.Need-same-length-3
 same-length-3 c = search needs
 
--- src/lib.rt:54:1
 returns : tie.Need-returns
-returns c = search needs
+returns c =
+    let c3 = c .before .before .before in
+    let c10 = c3 .before .before .before .before .before .before .before in
+    let c13 = c10 .before .before .before in
+    let c18 = c13 .before .before .before .before .before in
+    let d = c10 .request .result in
+    by-value _ _ (λ i. serve (stateOf (c13 .tables .ensures i) (c18 .args .store .now) (c18 .args .sheet .now)) (c18 .args .r)) d
+    (tables-sized (d .tables) (tables-fit (d .tables) (_, c10 .request .ok .1 .1 .1 .0))) _ _ _ (c10 .request .ensures) (c3 .tables2 .ensures)
 
 pub change-spec : {M : Type 1} → statement M
 change-spec =
