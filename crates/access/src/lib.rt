@@ -22,6 +22,11 @@ pub fn read(t: Tables, store: &[u8], sheet: &mut [u8], r: Request) -> Served
     let p = u.pads[a];
     let q = p.programs[r.program as usize];
     let k = pads::find(q, r.ticket);
+    // The dock is not asked about a ticket that is not there: that would be a look at every entry.
+    let kind = k.kind;
+    if !kind.is_live() {
+        return served::answer(u, 4);
+    }
     let es = u.entries;
     let n = k.dock;
     let e = dock::entry_in(es, n);
@@ -49,6 +54,10 @@ pub fn write(t: Tables, store: &mut [u8], sheet: &[u8], r: Request) -> Served
     let p = u.pads[a];
     let q = p.programs[r.program as usize];
     let k = pads::find(q, r.ticket);
+    let kind = k.kind;
+    if !kind.is_live() {
+        return served::answer(u, 4);
+    }
     let es = u.entries;
     let n = k.dock;
     let e = dock::entry_in(es, n);
