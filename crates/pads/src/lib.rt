@@ -69,9 +69,9 @@ pub fn give(p: Pad, program: usize, k: Ticket) -> Pad
     requires { ⌜ program < 8 ⌝ }
     ensures { λ r. ⌜ r ≡ givePad p program k ⌝ }
 {
-    let old = p.programs[program];
-    let new = with_ticket(old, k);
     let mut q = p;
+    let old = q.programs[program];
+    let new = with_ticket(old, k);
     q.programs[program] = new;
     q
 }
@@ -100,9 +100,9 @@ pub fn drop_one(p: Pad, program: usize, number: u16) -> Pad
     requires { ⌜ program < 8 ⌝ }
     ensures { λ r. ⌜ r ≡ dropPad p program number ⌝ }
 {
-    let old = p.programs[program];
-    let new = without_number(old, number);
     let mut q = p;
+    let old = q.programs[program];
+    let new = without_number(old, number);
     q.programs[program] = new;
     q
 }

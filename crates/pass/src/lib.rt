@@ -74,7 +74,8 @@ pub fn pass(t: Tables, r: Request) -> Served
     if r.pad != r.topad {
         let entry = made::entry(n, d, k.first + r.first, r.count, r.rights);
         // In tables in order there is one while a program has a free place (`entry-room`).
-        let spare = dock::spare_place(es);
+        let rest = u.entries;
+        let spare = dock::spare_place(rest);
         if spare < 256 {
             u.entries[spare] = entry;
         }

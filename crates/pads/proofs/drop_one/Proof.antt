@@ -27,7 +27,7 @@ returns : tie.Need-returns
 unfolding dropPad
 returns c =
     let c2 = c .before .before in
-    ap (λ (q : Program). record { programs = set (c2 .args .t1 .programs) (c2 .args .program) q }) (c .without-number .ensures)
+    ap (λ (q : Program). record { programs = set (c2 .args .p .programs) (c2 .args .program) q }) (c .without-number .ensures)
 
 pub drop-one-spec : {M : Type 1} → statement M
 drop-one-spec =

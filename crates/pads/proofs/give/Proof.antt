@@ -27,7 +27,7 @@ returns : tie.Need-returns
 unfolding givePad
 returns c =
     let c2 = c .before .before in
-    ap (λ (q : Program). record { programs = set (c2 .args .t1 .programs) (c2 .args .program) q }) (c .with-ticket .ensures)
+    ap (λ (q : Program). record { programs = set (c2 .args .p .programs) (c2 .args .program) q }) (c .with-ticket .ensures)
 
 pub give-spec : {M : Type 1} → statement M
 give-spec =

@@ -134,8 +134,8 @@ returns-2 c =
     λ store sheet. ap (λ (d : Served). outcomeOf d store sheet) (c .answer2 .ensures) ∙ served-refused t store sheet r early passing asks
     _ (own-pass t r _ said) (c .before .if2 .taken) (c .before .before .if1 .left)
 
-add-t45 : tie.Need-add-t45
-add-t45 c =
+add-t46 : tie.Need-add-t46
+add-t46 c =
     let c3 = c .before .before .before in
     let c4 = c3 .before in
     let c7 = c4 .before .before .before in
@@ -146,8 +146,8 @@ add-t45 c =
     let said = sym (c3 .pass .ensures t (record { ticket = k; asker = refl; recipient = refl; entry = sym (c4 .entry-in .ensures) })) in
     omega (arith, left-of t (r .topad) (r .toprogram) (accepted-says t r (said ∙ c .before .if2 .left) .other))
 
-add-t45-2 : tie.Need-add-t45-2
-add-t45-2 c =
+add-t46-2 : tie.Need-add-t46-2
+add-t46-2 c =
     let c4 = c .before .before .before .before in
     let c5 = c4 .before in
     let c8 = c5 .before .before .before in
@@ -249,58 +249,58 @@ element-set-from-entry c = search needs
 
 returns-3 : tie.Need-returns-3
 returns-3 c =
-    let c2 = c .before .before in
-    let c5 = c2 .before .before .before in
-    let c7 = c5 .before .before in
-    let c10 = c7 .before .before .before in
-    let c11 = c10 .before in
-    let c13 = c11 .before .before in
-    let c16 = c13 .before .before .before in
-    let c18 = c16 .before .before in
-    let c19 = c18 .before in
-    let c22 = c19 .before .before .before in
-    let c31 = c22 .before .before .before .before .before .before .before .before .before in
-    let t = c31 .args .t in
-    let r = c31 .args .r in
-    let k = asked-in t r ∙ sym (c22 .find .ensures) in
-    let said = sym (c18 .pass .ensures t (record { ticket = k; asker = refl; recipient = refl; entry = sym (c19 .entry-in .ensures) })) in
-    let early = c31 .pre .1 .early in
-    let asks = op-pass (r .op) (c31 .pre .1 .number) in
+    let c3 = c .before .before .before in
+    let c6 = c3 .before .before .before in
+    let c8 = c6 .before .before in
+    let c11 = c8 .before .before .before in
+    let c12 = c11 .before in
+    let c14 = c12 .before .before in
+    let c17 = c14 .before .before .before in
+    let c19 = c17 .before .before in
+    let c20 = c19 .before in
+    let c23 = c20 .before .before .before in
+    let c32 = c23 .before .before .before .before .before .before .before .before .before in
+    let t = c32 .args .t in
+    let r = c32 .args .r in
+    let k = asked-in t r ∙ sym (c23 .find .ensures) in
+    let said = sym (c19 .pass .ensures t (record { ticket = k; asker = refl; recipient = refl; entry = sym (c20 .entry-in .ensures) })) in
+    let early = c32 .pre .1 .early in
+    let asks = op-pass (r .op) (c32 .pre .1 .number) in
     let own : lastOf t (r .pad) (r .program) + 1 ≡ suc (lastOf t (r .pad) (r .program)) = omega arith in
     let other : lastOf t (r .topad) (r .toprogram) + 1 ≡ suc (lastOf t (r .topad) (r .toprogram)) = omega arith in
     λ store sheet. after-pass t store sheet r _ _ own other _
-    (lent-far t r _ k _ own _ other (c13 .recall .ensures) (c11 .give .ensures) (c10 .granted .ensures) (c7 .give2 .ensures)
-    (c5 .if3 .taken) (c2 .entry .ensures)
-    (put-here (withPad (withPad t (r .pad) (c11 .give .result)) (r .topad) (c7 .give2 .result)) (c2 .entry .result) _
-    (c .before .spare-place .ensures))) ∙ served-done t store sheet r early passing asks (own-pass t r 0 (said ∙ c16 .if2 .left))
+    (lent-far t r _ k _ own _ other (c14 .recall .ensures) (c12 .give .ensures) (c11 .granted .ensures) (c8 .give2 .ensures)
+    (c6 .if3 .taken) (c3 .entry .ensures)
+    (put-here (withPad (withPad t (r .pad) (c12 .give .result)) (r .topad) (c8 .give2 .result)) (c3 .entry .result) _
+    (c .before .spare-place .ensures))) ∙ served-done t store sheet r early passing asks (own-pass t r 0 (said ∙ c17 .if2 .left))
 
 returns-4 : tie.Need-returns-4
 returns-4 c =
-    let c2 = c .before .before in
-    let c5 = c2 .before .before .before in
-    let c7 = c5 .before .before in
-    let c10 = c7 .before .before .before in
-    let c11 = c10 .before in
-    let c13 = c11 .before .before in
-    let c16 = c13 .before .before .before in
-    let c18 = c16 .before .before in
-    let c19 = c18 .before in
-    let c22 = c19 .before .before .before in
-    let c31 = c22 .before .before .before .before .before .before .before .before .before in
-    let t = c31 .args .t in
-    let r = c31 .args .r in
-    let k = asked-in t r ∙ sym (c22 .find .ensures) in
-    let said = sym (c18 .pass .ensures t (record { ticket = k; asker = refl; recipient = refl; entry = sym (c19 .entry-in .ensures) })) in
-    let early = c31 .pre .1 .early in
-    let asks = op-pass (r .op) (c31 .pre .1 .number) in
+    let c3 = c .before .before .before in
+    let c6 = c3 .before .before .before in
+    let c8 = c6 .before .before in
+    let c11 = c8 .before .before .before in
+    let c12 = c11 .before in
+    let c14 = c12 .before .before in
+    let c17 = c14 .before .before .before in
+    let c19 = c17 .before .before in
+    let c20 = c19 .before in
+    let c23 = c20 .before .before .before in
+    let c32 = c23 .before .before .before .before .before .before .before .before .before in
+    let t = c32 .args .t in
+    let r = c32 .args .r in
+    let k = asked-in t r ∙ sym (c23 .find .ensures) in
+    let said = sym (c19 .pass .ensures t (record { ticket = k; asker = refl; recipient = refl; entry = sym (c20 .entry-in .ensures) })) in
+    let early = c32 .pre .1 .early in
+    let asks = op-pass (r .op) (c32 .pre .1 .number) in
     let own : lastOf t (r .pad) (r .program) + 1 ≡ suc (lastOf t (r .pad) (r .program)) = omega arith in
     let other : lastOf t (r .topad) (r .toprogram) + 1 ≡ suc (lastOf t (r .topad) (r .toprogram)) = omega arith in
     λ store sheet. after-pass t store sheet r _ _ own other _
-    (lent-far t r _ k _ own _ other (c13 .recall .ensures) (c11 .give .ensures) (c10 .granted .ensures) (c7 .give2 .ensures)
-    (c5 .if3 .taken) (c2 .entry .ensures)
-    (put-nowhere (withPad (withPad t (r .pad) (c11 .give .result)) (r .topad) (c7 .give2 .result)) (c2 .entry .result) _
-    (c .before .spare-place .ensures) (omega (arith, tables-fit t (_, c31 .good .0) .entries-long, c .if4 .left)))) ∙ served-done t store
-    sheet r early passing asks (own-pass t r 0 (said ∙ c16 .if2 .left))
+    (lent-far t r _ k _ own _ other (c14 .recall .ensures) (c12 .give .ensures) (c11 .granted .ensures) (c8 .give2 .ensures)
+    (c6 .if3 .taken) (c3 .entry .ensures)
+    (put-nowhere (withPad (withPad t (r .pad) (c12 .give .result)) (r .topad) (c8 .give2 .result)) (c3 .entry .result) _
+    (c .before .spare-place .ensures) (omega (arith, tables-fit t (_, c32 .good .0) .entries-long, c .if4 .left)))) ∙ served-done t store
+    sheet r early passing asks (own-pass t r 0 (said ∙ c17 .if2 .left))
 
 returns-5 : tie.Need-returns-5
 returns-5 c =
@@ -351,8 +351,8 @@ pass-spec =
     returns
     answer-requires-2
     returns-2
-    add-t45
-    add-t45-2
+    add-t46
+    add-t46-2
     recall-requires
     cast-give
     give-requires
