@@ -5,25 +5,27 @@ use mathlib.Core.Path.{sym, ap, _∙_}
 use lib.ListN.{length-take, length-drop}
 use borrow.Author.Needs.{needs}
 use Rattle.lists.proofs.Front.{rest-part}
-use Rattle.tables.proofs.Fits.{tables-fit, tables-sized}
+use Rattle.image.specs.Image.{decode}
+use Rattle.lent.proofs.Steps.{image-whole}
 use Rattle.batch.specs.Sequence.{startWith}
 use Rattle.batch.specs.Numbers.{requestIn, countOf}
-use Rattle.batch.proofs.Steps.{Going, begins, next, ends}
+use Rattle.batch.proofs.Steps.{Going, begins, still-image, next, ends}
 use Rattle.batch.proofs.serve_all.Statement.{statement}
 use Rattle.batch.proofs.serve_all.Tie as tie
 
 abbrev Inv-loop : tie.InvT-loop
-Inv-loop store₀ sheets₀ requests answers₀ keeps n t₀ sure₀ i₀ store sheets answers t sure i = Going (startWith t₀ store₀ sheets₀ requests) n answers₀ keeps i t store sheets answers sure
+Inv-loop tables₀ store₀ sheets₀ requests answers₀ keeps n sure₀ i₀ tables store sheets answers sure i = Going (startWith (decode tables₀) store₀ sheets₀ requests) n answers₀ keeps i tables store sheets answers sure
 
 abbrev μ-loop : tie.MeasureT-loop
-μ-loop store₀ sheets₀ requests answers₀ keeps n t₀ sure₀ i₀ store sheets answers t sure i = n - i
+μ-loop tables₀ store₀ sheets₀ requests answers₀ keeps n sure₀ i₀ tables store sheets answers sure i = n - i
 
 loop-holds : tie.Need-loop-holds Inv-loop μ-loop
 loop-holds c =
     let c4 = c .before .before .before .before in
-    let a = c4 .args in
-    begins (startWith (a .start) (a .store .now) (a .sheets .now) (a .requests .now)) (countOf (a .requests .now)) (a .answers .now) (a .keeps)
-    (c4 .pre .0 .store) (tables-sized (a .start) (tables-fit (a .start) (_, c4 .good .0))) (c4 .pre .1 .0) (c4 .pre .1 .1)
+    let c5 = c4 .before in
+    let a = c5 .args in
+    begins (a .tables .now) (a .store .now) (a .sheets .now) (a .requests .now) (countOf (a .requests .now)) (a .answers .now) (a .keeps)
+    (λ j. omega (arith, c4 .slice-known .given j)) (c5 .pre .0) (c5 .pre .1 .0 .store) (c5 .pre .1 .1 .0) (c5 .pre .1 .1 .1)
 
 mul-from : tie.Need-mul-from Inv-loop μ-loop
 mul-from c = search needs
@@ -57,40 +59,43 @@ part-serve-one-start c = search needs
 
 part-serve-one-end : tie.Need-part-serve-one-end Inv-loop μ-loop
 part-serve-one-end c =
-    let c3 = c .before .before .before in
-    let c4 = c3 .before in
-    let c9 = c4 .before .before .before .before .before in
-    omega (arith, c4 .loop .inv .sheets .size, c9 .pre .0 .sheets, c3 .loop-test .taken)
+    let c4 = c .before .before .before .before in
+    let c5 = c4 .before in
+    let c11 = c5 .before .before .before .before .before .before in
+    omega (arith, c5 .loop .inv .sheets .size, c11 .pre .1 .0 .sheets, c4 .loop-test .taken)
 
 serve-one-requires : tie.Need-serve-one-requires Inv-loop μ-loop
 serve-one-requires c κs =
-    let c4 = c .before .before .before .before in
-    let c5 = c4 .before in
-    let h = c5 in (
-      record {
-        store = h .loop .inv .long;
-        sheet = simp (length-take, length-drop) (omega (arith, h .loop .inv .sheets .size, h .before .before .before .before .before .pre .0 .sheets, c4 .loop-test .taken));
-      },
-      h .loop .inv .ordered,
+    let c5 = c .before .before .before .before .before in
+    let c6 = c5 .before in
+    let c12 = c6 .before .before .before .before .before .before in (
+      still-image _ _ _ _ _ _ _ _ _ _ (c6 .loop .inv),
+      (
+        record {
+          store = c6 .loop .inv .long;
+          sheet = simp (length-take, length-drop) (omega (arith, c6 .loop .inv .sheets .size, c12 .pre .1 .0 .sheets, c5 .loop-test .taken));
+        },
+        c6 .loop .inv .ordered,
+      ),
     )
 
 mul-into : tie.Need-mul-into Inv-loop μ-loop
 mul-into c =
-    let c11 = c .before .before .before .before .before .before .before .before .before .before .before in
-    let c17 = c11 .before .before .before .before .before .before in
-    omega (arith, c11 .loop-test .taken, c17 .pre .0 .answers)
+    let c12 = c .before .before .before .before .before .before .before .before .before .before .before .before in
+    let c19 = c12 .before .before .before .before .before .before .before in
+    omega (arith, c12 .loop-test .taken, c19 .pre .1 .0 .answers)
 
 add-upto : tie.Need-add-upto Inv-loop μ-loop
 add-upto c =
-    let c11 = c .before .before .before .before .before .before .before .before .before .before .before in
-    let c17 = c11 .before .before .before .before .before .before in
-    omega (arith, c11 .loop-test .taken, c17 .pre .0 .answers)
+    let c12 = c .before .before .before .before .before .before .before .before .before .before .before .before in
+    let c19 = c12 .before .before .before .before .before .before .before in
+    omega (arith, c12 .loop-test .taken, c19 .pre .1 .0 .answers)
 
 mul-put-answer : tie.Need-mul-put-answer Inv-loop μ-loop
 mul-put-answer c =
-    let c11 = c .before .before .before .before .before .before .before .before .before .before .before in
-    let c17 = c11 .before .before .before .before .before .before in
-    omega (arith, c11 .loop-test .taken, c17 .pre .0 .answers)
+    let c12 = c .before .before .before .before .before .before .before .before .before .before .before .before in
+    let c19 = c12 .before .before .before .before .before .before .before in
+    omega (arith, c12 .loop-test .taken, c19 .pre .1 .0 .answers)
 
 sub-put-answer : tie.Need-sub-put-answer Inv-loop μ-loop
 sub-put-answer c = search needs
@@ -100,18 +105,18 @@ part-put-answer-start c = search needs
 
 part-put-answer-end : tie.Need-part-put-answer-end Inv-loop μ-loop
 part-put-answer-end c =
-    let c11 = c .before .before .before .before .before .before .before .before .before .before .before in
-    let c12 = c11 .before in
-    let c17 = c12 .before .before .before .before .before in
-    omega (arith, c12 .loop .inv .answers .size, c17 .pre .0 .answers, c11 .loop-test .taken)
+    let c12 = c .before .before .before .before .before .before .before .before .before .before .before .before in
+    let c13 = c12 .before in
+    let c19 = c13 .before .before .before .before .before .before in
+    omega (arith, c13 .loop .inv .answers .size, c19 .pre .1 .0 .answers, c12 .loop-test .taken)
 
 put-answer-requires : tie.Need-put-answer-requires Inv-loop μ-loop
 put-answer-requires c κs = search needs
 
 add-i : tie.Need-add-i Inv-loop μ-loop
 add-i c =
-    let c15 = c .before .before .before .before .before .before .before .before .before .before .before .before .before .before .before in
-    omega (arith, c15 .loop-test .taken)
+    let c16 = c .before .before .before .before .before .before .before .before .before .before .before .before .before .before .before .before in
+    omega (arith, c16 .loop-test .taken)
 
 loop-less : tie.Need-loop-less Inv-loop μ-loop
 loop-less c = search needs
@@ -119,34 +124,39 @@ loop-less c = search needs
 loop-again : tie.Need-loop-again Inv-loop μ-loop
 loop-again c =
     let c10 = c .before .before .before .before .before .before .before .before .before .before in
-    let c13 = c10 .before .before .before in
-    let c15 = c13 .before .before in
-    let c16 = c15 .before in
-    let c21 = c16 .before .before .before .before .before in
-    let a = c21 .args in
-    let i = c16 .loop .i in
-    next _ _ _ _ _ _ _ _ _ _ (c16 .loop .inv) (64 * i + 64 - 64 * i) (omega arith) _
-    (c13 .request-in .ensures ∙ ap requestIn (rest-part (a .requests .now) (9 * i))) (c10 .serve-one .result) _ _ (c10 .serve-one .ensures)
-    (3 * i + 3 - 3 * i) _ (c10 .serve-one .kept .1 .0 ∙ c16 .loop .inv .long)
-    (c10 .serve-one .kept .1 .1 .0 ∙ simp (length-take, length-drop) (omega (arith, c16 .loop .inv .sheets .size, c21 .pre .0 .sheets, c15 .loop-test .taken)))
-    (c15 .loop-test .taken) (c21 .pre .0 .sheets) (c21 .pre .0 .answers) (omega arith)
+    let c14 = c10 .before .before .before .before in
+    let c16 = c14 .before .before in
+    let c17 = c16 .before in
+    let c23 = c17 .before .before .before .before .before .before in
+    let a = c23 .args in
+    let i = c17 .loop .i in
+    next _ _ _ _ _ _ _ _ _ _ (c17 .loop .inv) (64 * i + 64 - 64 * i) (omega arith) _
+    (c14 .request-in .ensures ∙ ap requestIn (rest-part (a .requests .now) (9 * i))) (c10 .serve-one .result) _ _ _ (c10 .serve-one .ensures)
+    (3 * i + 3 - 3 * i) _ (c10 .serve-one .kept .1 .0 ∙ c17 .loop .inv .long)
+    (c10 .serve-one .kept .1 .1 .0 ∙ simp (length-take, length-drop) (omega (arith, c17 .loop .inv .sheets .size, c23 .pre .1 .0 .sheets, c16 .loop-test .taken)))
+    (c16 .loop-test .taken) (c23 .pre .1 .0 .sheets) (c23 .pre .1 .0 .answers) (omega arith)
     (c .before .before .put-answer .ensures)
 
 same-length : tie.Need-same-length Inv-loop μ-loop
 same-length c =
-    let c6 = c .before .before .before .before .before .before in
-    c .before .loop .inv .long ∙ sym (c6 .pre .0 .store)
+    let c7 = c .before .before .before .before .before .before .before in
+    image-whole _ (still-image _ _ _ _ _ _ _ _ _ _ (c .before .loop .inv)) ∙ sym (image-whole (c7 .args .tables .now) (c7 .pre .0))
 
 same-length-2 : tie.Need-same-length-2 Inv-loop μ-loop
-same-length-2 c = c .before .loop .inv .sheets .size
+same-length-2 c =
+    let c7 = c .before .before .before .before .before .before .before in
+    c .before .loop .inv .long ∙ sym (c7 .pre .1 .0 .store)
 
 same-length-3 : tie.Need-same-length-3 Inv-loop μ-loop
-same-length-3 c = c .before .loop .inv .answers .size
+same-length-3 c = c .before .loop .inv .sheets .size
+
+same-length-4 : tie.Need-same-length-4 Inv-loop μ-loop
+same-length-4 c = c .before .loop .inv .answers .size
 
 returns : tie.Need-returns Inv-loop μ-loop
 returns c =
-    let c6 = c .before .before .before .before .before .before in
-    ends _ _ _ _ _ _ _ _ _ _ (c .before .loop .inv) (omega (arith, c .loop-test .left)) (c6 .pre .0 .sheets) (c6 .pre .0 .answers)
+    let c7 = c .before .before .before .before .before .before .before in
+    ends _ _ _ _ _ _ _ _ _ _ (c .before .loop .inv) (omega (arith, c .loop-test .left)) (c7 .pre .1 .0 .sheets) (c7 .pre .1 .0 .answers)
 
 pub serve-all-spec : {M : Type 1} → statement M
 serve-all-spec =
@@ -180,4 +190,5 @@ serve-all-spec =
     same-length
     same-length-2
     same-length-3
+    same-length-4
     returns)
