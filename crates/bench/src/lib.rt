@@ -1,4 +1,4 @@
-// What a benchmark times beside the routines for hosts: the inner step and the order test on tables that are decoded once.
+// What a benchmark times beside the routines for hosts: the inner step on tables that are decoded once.
 ghost use mathlib.Core.Path.{_≡_};
 ghost use mathlib.Core.Bool.{true};
 ghost use Rattle.tables.specs.Order.{inOrder};
@@ -48,24 +48,9 @@ pub extern "C" fn bench_inner(
     if sheet.len() != SHEET {
         return 13;
     }
-    let t = decode::tables(tables);
-    if !order::in_order(t) {
+    if !order::image_in_order(tables) {
         return 14;
     }
+    let t = decode::tables(tables);
     serve_each(t, store, sheet, requests)
-}
-
-// The order test, n times: were the tables in order the last time?
-#[no_mangle]
-pub extern "C" fn bench_order(tables: &[u8], n: u32) -> bool {
-    if tables.len() != TABLES {
-        return false;
-    }
-    let mut good = false;
-    let mut i: u32 = 0;
-    while i < n {
-        i = i + 1;
-        good = order::image_in_order(tables);
-    }
-    good
 }
