@@ -20,12 +20,6 @@ pub fn inner(tables: &[u8], store: &mut [u8], requests: &[u16]) -> u16 {
     }
 }
 
-/// The order test, so many times.
-pub fn order(tables: &[u8], times: u32) -> bool {
-    // SAFETY: the pointer is valid for its length, and the call only reads.
-    unsafe { bench_order(tables.as_ptr(), tables.len(), times) }
-}
-
 extern "C" {
     fn bench_inner(
         tables: *const u8,
@@ -37,5 +31,4 @@ extern "C" {
         requests: *const u16,
         requests_length: usize,
     ) -> u16;
-    fn bench_order(tables: *const u8, tables_length: usize, times: u32) -> bool;
 }

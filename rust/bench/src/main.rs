@@ -241,9 +241,8 @@ fn time(trace: &Trace) -> bool {
             assert!(test(std::hint::black_box(b)));
         }
     };
-    let image_order = best(turns, &mut buffers, |_| (), |b| repeat(b, |b| raw::in_order(&b.tables) == 0));
+    let order = best(turns, &mut buffers, |_| (), |b| repeat(b, |b| raw::in_order(&b.tables) == 0));
     let model_order = best(turns, &mut buffers, |_| (), |b| repeat(b, |b| b.state.in_order()));
-    let order = best(turns, &mut buffers, |_| (), |b| assert!(beside::order(&b.tables, turns as u32)));
 
     let (tickets, entries) = (trace.start.tickets().count(), trace.start.entries().count());
     let refused = trace.answers.iter().filter(|answer| answer.result != 0).count();
@@ -255,7 +254,6 @@ fn time(trace: &Trace) -> bool {
     row(&format!("batch of {BATCH}; the model tests no order"), batch, untested);
     row("inner step; the model tests no order", inner, untested);
     row("order test", order, model_order);
-    row("order test of an image", image_order, model_order);
     if !agree {
         println!("  the answers differ");
     }
