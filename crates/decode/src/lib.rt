@@ -149,7 +149,7 @@ fn pads_in(bytes: &[u8]) -> [Pad; 4]
 {
     let first = pad_in(bytes);
     let mut pads = [first; 4];
-    let mut i: usize = 0;
+    let mut i: usize = 1;
     while i < 4 {
         let at = PAD * i;
         let p = pad_in(&bytes[at..]);

@@ -38,6 +38,20 @@ module _ {A : Type 0} (d : A) (test : A → Bool) (xs : List A) where
     stays : (p m : ℕ) → count ≤ m → Spot places count p → Spot now m p
     stays p m g s = record { at = s .at; low = omega (arith, s .low, g); here = kept (s .at) (s .low) ∙ s .here }
 
+    -- a place that is not written
+    pub listed-past : (x : A) → x ≡ getD xs i d → test x ≡ false → Listing d test xs (i + 1) places count
+    listed-past x here e = record {
+      most = omega (arith, so .most);
+      low = λ j h. omega (arith, so .low j h);
+      passes = so .passes;
+      rising = so .rising;
+      all = λ p h t. at p h t (case (eqb p i));
+    }
+      where
+        at : (p : ℕ) → p < i + 1 → test (getD xs p d) ≡ true → Case (eqb p i) → Spot places count p
+        at p h t (pass q) = contradiction (subst (λ (m : ℕ). test (getD xs m d) ≡ true) (eqb-true p i q) t) (subst (λ (y : A). test y ≡ false) here e)
+        at p h t (fail q) = so .all p (omega (arith, h, eqb-false p i q)) t
+
     skip : test (getD xs i d) ≡ false → Listing d test xs (i + 1) now count
     skip e = record {
       most = omega (arith, so .most);

@@ -28,7 +28,7 @@ fn one_if(b: bool) -> usize
     if b { 1 } else { 0 }
 }
 
-// Each place is written behind the lists' ends, and only the list that it belongs to grows: no branch depends on the kind.
+// A live ticket's place is written behind the lists' ends, and only the list that it belongs to grows: no branch depends on its kind.
 pub fn list_tickets(
     image: &[u8],
     taken: &mut [u16],
@@ -47,12 +47,14 @@ pub fn list_tickets(
         let place = i as u16;
         i = i + 1;
         let kind = k.kind;
-        taken[a] = place;
-        children[b] = place;
-        recalls[c] = place;
-        a = a + one_if(kind.is_taken());
-        b = b + one_if(kind.is_child());
-        c = c + one_if(kind.is_recall());
+        if kind.is_live() {
+            taken[a] = place;
+            children[b] = place;
+            recalls[c] = place;
+            a = a + one_if(kind.is_taken());
+            b = b + one_if(kind.is_child());
+            c = c + one_if(kind.is_recall());
+        }
     }
     Tickets {
         taken: a,
@@ -92,10 +94,12 @@ pub fn list_entries(image: &[u8], roots: &mut [u16], hung: &mut [u16]) -> Entrie
         let e = decode::entry_at(image, i);
         let place = i as u16;
         i = i + 1;
-        roots[a] = place;
-        hung[b] = place;
-        a = a + one_if(is_root(e));
-        b = b + one_if(is_hung(e));
+        if e.live {
+            roots[a] = place;
+            hung[b] = place;
+            a = a + one_if(is_root(e));
+            b = b + one_if(is_hung(e));
+        }
     }
     Entries { roots: a, hung: b }
 }

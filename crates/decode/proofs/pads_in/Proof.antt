@@ -1,11 +1,11 @@
--- After i turns the first i places hold the pads that the bytes say.
+-- At i the first i places hold the pads that the bytes say; the first pad stands there from the start.
 use Prim.Native.Nat.{_-_, _*_, _≤_}
 use native.Mathlib.Omega.{arith}
-use mathlib.Core.Path.{ap, _∙_}
-use lib.ListN.{drop}
+use mathlib.Core.Path.{_≡_, ap, _∙_}
+use lib.ListN.{drop, length-replicate}
 use borrow.Author.Needs.{needs}
 use Rattle.lists.proofs.Front.{rest-part}
-use Rattle.lists.proofs.Laid.{Laid, laid-none, one-more}
+use Rattle.lists.proofs.Laid.{Laid, one-more}
 use Rattle.lists.proofs.PartLaws.{tabulated}
 use Rattle.tables.specs.Names.{noPad}
 use Rattle.image.specs.Image.{padIn, decode}
@@ -22,7 +22,13 @@ pad-in-requires : tie.Need-pad-in-requires Inv-loop μ-loop
 pad-in-requires c κs = search needs
 
 loop-holds : tie.Need-loop-holds Inv-loop μ-loop
-loop-holds c = (omega arith, laid-none noPad 4 (λ j. padIn (drop (1552 * j) (c .before .before .args .bytes .now))) _)
+loop-holds c = (
+  omega arith,
+  record {
+    long = length-replicate 4 (c .pad-in .result);
+    same = λ p h. let z : p ≡ 0 = omega (arith, h) in rw z (c .pad-in .ensures);
+  },
+)
 
 mul-at : tie.Need-mul-at Inv-loop μ-loop
 mul-at c = search needs
