@@ -41,7 +41,7 @@ name-back : (n : Name)
     → nameOf (n .pad % 256 + 256 * (n .pad / 256)) (n .program % 256 + 256 * (n .program / 256)) (n .number % 256 + 256 * (n .number / 256)) ≡ n
 name-back n = λ i. nameOf (number-back (n .pad) i) (number-back (n .program) i) (number-back (n .number) i)
 
-ticket-back : (k : Ticket) (bytes : List ℕ) → Begins (ticketBytes k) bytes → ticketIn bytes ≡ k
+pub ticket-back : (k : Ticket) (bytes : List ℕ) → Begins (ticketBytes k) bytes → ticketIn bytes ≡ k
 unfolding ticketBytes ticketNumbers bytesOf ticketIn
 ticket-back k bytes it =
     ap ticketIn (it .same)
@@ -56,7 +56,7 @@ ticket-back k bytes it =
       dock = name-back (k .dock) i;
     })
 
-entry-back : (e : Entry) (bytes : List ℕ) → Begins (entryBytes e) bytes → entryIn bytes ≡ e
+pub entry-back : (e : Entry) (bytes : List ℕ) → Begins (entryBytes e) bytes → entryIn bytes ≡ e
 unfolding entryBytes entryNumbers bytesOf entryIn
 entry-back e bytes it =
     ap entryIn (it .same)
@@ -156,11 +156,11 @@ live-low : (live : Bool) → leb (cond live 1 0) 1 ≡ true
 live-low true = refl
 live-low false = refl
 
-ticket-kind : (k : Ticket) (bytes : List ℕ) → Begins (ticketBytes k) bytes → leb (numberAt 0 bytes) 4 ≡ true
+pub ticket-kind : (k : Ticket) (bytes : List ℕ) → Begins (ticketBytes k) bytes → leb (numberAt 0 bytes) 4 ≡ true
 unfolding ticketBytes ticketNumbers
 ticket-kind k bytes it = rw (number-begins (kindNumber (k .kind)) _ bytes it) (kind-low (k .kind))
 
-entry-live : (e : Entry) (bytes : List ℕ) → Begins (entryBytes e) bytes → leb (numberAt 0 bytes) 1 ≡ true
+pub entry-live : (e : Entry) (bytes : List ℕ) → Begins (entryBytes e) bytes → leb (numberAt 0 bytes) 1 ≡ true
 unfolding entryBytes entryNumbers
 entry-live e bytes it = rw (number-begins (cond (e .live) 1 0) _ bytes it) (live-low (e .live))
 
@@ -221,29 +221,39 @@ pad-again bytes b low =
     parts-cut 194 8 programBytes noProgram programIn bytes
     (λ i h. program-again _ (bytes-drop (194 * i) 194 (omega arith) b) (λ j. low i j h))
 
--- the tests of an image, each at its place
+-- ---- the tests of an image
 module _ (bytes : List ℕ) (e : isImage bytes ≡ true) where
-  long : length bytes ≡ 11328
+  pub image-whole : length bytes ≡ 11328
   unfolding isImage
-  long = eqb-true _ 11328 (and-l _ (kindsOk bytes) (and-l _ (livesOk bytes) e))
+  image-whole = eqb-true _ 11328 (and-l _ (kindsOk bytes) (and-l _ (livesOk bytes) e))
+
+  pub image-kinds : kindsOk bytes ≡ true
+  unfolding isImage
+  image-kinds = and-r (eqb (length bytes) 11328) (kindsOk bytes) (and-l _ (livesOk bytes) e)
+
+  pub image-lives : livesOk bytes ≡ true
+  unfolding isImage
+  image-lives = and-r (eqb (length bytes) 11328 && kindsOk bytes) (livesOk bytes) e
 
   kinds : (a b i : ℕ) → a < 4 → b < 8 → i < 8 → numberAt 0 (drop (24 * i) (drop (194 * b) (drop (1552 * a) bytes))) ≤ 4
-  unfolding isImage kindsOk
+  unfolding kindsOk
   kinds a b i ha hb hi =
-      let low = and-r (eqb (length bytes) 11328) (kindsOk bytes) (and-l _ (livesOk bytes) e) in
       rw (sym (kind-place a b i bytes hb hi))
-      (leb-true _ 4 (every-at 256 (λ place. leb (numberAt (ticketStart place) bytes) 4) low (64 * a + 8 * b + i) (omega arith)))
+      (leb-true _ 4 (every-at 256 (λ place. leb (numberAt (ticketStart place) bytes) 4) image-kinds (64 * a + 8 * b + i) (omega arith)))
 
   lives : (i : ℕ) → i < 256 → numberAt 0 (drop (20 * i) (drop 6208 bytes)) ≤ 1
-  unfolding isImage livesOk
+  unfolding livesOk
   lives i h =
-      let low = and-r (eqb (length bytes) 11328 && kindsOk bytes) (livesOk bytes) e in
-      rw (sym (entry-place i bytes)) (leb-true _ 1 (every-at 256 (λ place. leb (numberAt (entryStart place) bytes) 1) low i h))
+      rw (sym (entry-place i bytes)) (leb-true _ 1 (every-at 256 (λ place. leb (numberAt (entryStart place) bytes) 1) image-lives i h))
+
+pub is-image : (bytes : List ℕ) → length bytes ≡ 11328 → kindsOk bytes ≡ true → livesOk bytes ≡ true → isImage bytes ≡ true
+unfolding isImage
+is-image bytes long kinds lives = and-intro (and-intro (eq-eqb _ 11328 long) kinds) lives
 
 pub encode-decode : (bytes : List ℕ) → ((i : ℕ) → getD bytes i 0 < 256) → isImage bytes ≡ true → encode (decode bytes) ≡ bytes
 unfolding encode decode
 encode-decode bytes small e =
-    let whole : Bytes 11328 bytes = record { long = omega (arith, long bytes e); small = small } in
+    let whole : Bytes 11328 bytes = record { long = omega (arith, image-whole bytes e); small = small } in
     let pads =
     parts-cut 1552 4 padBytes noPad padIn bytes
     (λ i h. pad-again _ (bytes-drop (1552 * i) 1552 (omega arith) whole) (λ b j. kinds bytes e i b j h)) in
@@ -251,4 +261,4 @@ encode-decode bytes small e =
     ap (λ (l : List Entry). joined 256 (λ i. entryBytes (getD l i noEntry))) (entries-in bytes)
     ∙ parts-cut 20 256 entryBytes noEntry entryIn (drop 6208 bytes)
     (λ i h. entry-again _ (bytes-drop (20 * i) 20 (omega arith) (bytes-drop 6208 5120 (omega arith) whole)) (lives bytes e i h)) in
-    (λ i. pads i ++ entries i) ∙ sym (take-add 6208 5120 bytes) ∙ take-all 11328 bytes (omega (arith, long bytes e))
+    (λ i. pads i ++ entries i) ∙ sym (take-add 6208 5120 bytes) ∙ take-all 11328 bytes (omega (arith, image-whole bytes e))

@@ -36,7 +36,7 @@ use Rattle.machine.specs.Isolation.{owns, Unlinked}
 use Rattle.preservation.specs.Rules.{Inside, Apart, EntryOk}
 use Rattle.preservation.specs.InOrder.{InOrder, DockOk}
 use Rattle.preservation.proofs.SheetTests.{apart-sym, run-fits, beside}
-use Rattle.preservation.proofs.AfterChange.{removed, dropped-program, entry-removed, no-entry-there}
+use Rattle.preservation.proofs.AfterChange.{removed, entry-removed, no-entry-there}
 use Rattle.preservation.proofs.ChainSteps.{head-is-dock, within-entry, entry-fits}
 use Rattle.preservation.proofs.RemovingOperations.{drop-no-entry}
 use Rattle.preservation.proofs.Taking.{MayTake, TakeEffect, take-effect}
@@ -50,6 +50,7 @@ use Rattle.isolation.proofs.Sides.{dock-side, not-under, not-below, sid
 use Rattle.isolation.proofs.AlikeFacts.{mine-low}
 use Rattle.isolation.proofs.UnlinkedKept.{unlinked-removed, unlinked-take, unlinked-near, unlinked-far}
 use Rattle.tables.specs.Kinds.{isLive, isTaken, isRecall}
+use Rattle.tables.proofs.Programs.{dropped-program}
 
 -- ---- removal that spares the group
 cond-both : {A : Type 0} (b : Bool) (x : A) → cond b x x ≡ x

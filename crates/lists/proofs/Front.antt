@@ -5,8 +5,8 @@ use Prim.Native.Nat.{ℕ, zero, suc, _+_, _-_, _≤_, _<_}
 use native.Mathlib.Numerals.{add-one}
 use native.Mathlib.Omega.{arith}
 use mathlib.Core.Path.{_≡_, refl, sym, ap, _∙_}
-use mathlib.Core.List.{List, [], _∷_, _++_, map}
-use lib.ListN.{length, getD, set, take, drop, replicate, length-replicate, getD-replicate, length-map, length-drop, List·getD-map}
+use mathlib.Core.List.{List, [], _∷_, _++_}
+use lib.ListN.{length, getD, set, take, drop, replicate, length-replicate, getD-replicate, length-drop}
 use lib.Seq.{take-all}
 
 unfoldable pub front : {A : Type 0} → ℕ → List A → List A → List A
@@ -86,13 +86,6 @@ module _ {A : Type 0} where
   front-part (suc s) k (a ∷ f) (b ∷ t) h e =
       let z : suc s + k ≡ suc (s + k) = omega arith in
       rw z (ap (λ (l : List A). a ∷ l) (front-part s k f t (omega arith) (omega arith)))
-
--- a list's elements changed by g, one more turn
-pub front-map : {A B : Type 0} (g : A → B) (l : List A) (d : A) (t : List B) (i : ℕ) → i < length l
-    → set (front i (map g l) t) i (g (getD l i d)) ≡ front (i + 1) (map g l) t
-front-map {A} {B} g l d t i h =
-    ap (λ (b : B). set (front i (map g l) t) i b) (sym (List·getD-map g l i d))
-    ∙ front-more i (map g l) t (g d) (rw (length-map l g) h)
 
 -- the part of a list from `at` on
 pub rest-part : {A : Type 0} (l : List A) (at : ℕ) → take (length l - at) (drop at l) ≡ drop at l

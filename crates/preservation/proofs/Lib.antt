@@ -5,6 +5,7 @@ pub mod AfterChange
 pub mod TestsByName
 pub mod Places
 pub mod ChainSteps
+pub mod ByDock
 pub mod Removal
 pub mod RemovingOperations
 pub mod Insertion

@@ -22,11 +22,12 @@ use Rattle.tables.specs.Change.{withProgram}
 use Rattle.tables.specs.Order.{everyTicketOf, everyTicket, someTicketOf, someTicket, everyEntry, numbersOk, t1, spanOk, t2, parentOk, childOk, t3, t4, entryNamesOk, grantOk, parentEntryOk, entryOk, rootsOk, t5, recallParentOk, isChildOf, farTargetOk, targetOk, recallOk, t6, inOrder}
 use Rattle.tables.specs.Same.{said, saidEntry, SameTables}
 use Rattle.tables.proofs.NameLaws.{program-same}
+use Rattle.tables.proofs.Programs.{program-here, program-beside, sized-with}
 use Rattle.machine.specs.declared.Request.{Request}
 use Rattle.machine.specs.State.{refused}
 use Rattle.machine.specs.Refusal.{_when_else_}
 use Rattle.machine.specs.Step.{lengthsOk, refusal, outcome, step}
-use Rattle.preservation.proofs.AfterChange.{program-here, program-beside, sized-with, lookup-programs}
+use Rattle.preservation.proofs.AfterChange.{lookup-programs}
 use Rattle.preservation.proofs.EmptyDockInOrder.{empty-sized}
 use Rattle.sameness.specs.SameOutcome.{SameOutcome}
 use Rattle.sameness.proofs.SameStep.{same-step}

@@ -6,3 +6,5 @@ pub mod ByPlace
 pub mod Fits
 pub mod Building
 pub mod OrderCases
+pub mod Programs
+pub mod FreePlaces
