@@ -1,10 +1,10 @@
-// The tables read from their image, whole or by place, and the test which bytes are one.
+// The tables read from their image, whole or by place.
 ghost use Prim.Native.Nat.{_+_, _<_, _≤_};
 ghost use mathlib.Core.Path.{_≡_};
 ghost use lib.ListN.{length, getD};
 ghost use Rattle.image.specs.Numbers.{numberAt};
 ghost use Rattle.tables.specs.Names.{free, noEntry};
-ghost use Rattle.image.specs.Image.{kindOf, nameAt, ticketIn, programIn, padIn, entryIn, decode, kindsOk, livesOk, isImage};
+ghost use Rattle.image.specs.Image.{kindOf, nameAt, ticketIn, programIn, padIn, entryIn, decode, ticketStart, entryStart};
 ghost use Rattle.decode.specs.Places.{ticketsIn, lastsIn, entriesIn};
 use rights::Rights;
 use tables::Entry;
@@ -15,7 +15,7 @@ use tables::Program;
 use tables::Tables;
 use tables::Ticket;
 
-// Bytes of a ticket, of a program, of a pad and of an entry; where a program's last number stands in it and where the entries begin; all.
+// Bytes of a ticket, of a program, of a pad and of an entry; where a program's last number stands in it and where the entries begin.
 const TICKET: usize = 24;
 
 const PROGRAM: usize = 194;
@@ -27,8 +27,6 @@ const PAD: usize = 1552;
 const ENTRY: usize = 20;
 
 const ENTRIES: usize = 6208;
-
-const LENGTH: usize = 11328;
 
 fn wide(b: u8) -> u16
     ensures { λ r. ⌜ (r ≡ b) × (r < 256) ⌝ }
@@ -199,6 +197,14 @@ pub fn ticket_at(bytes: &[u8], place: usize) -> Ticket
     ticket_in(&bytes[at..])
 }
 
+// The number that says the kind of the ticket at a place, before it is read as one.
+pub fn kind_at(bytes: &[u8], place: usize) -> u16
+    requires { ⌜ (length (now bytes) ≡ 11328) × (place < 256) ⌝ }
+    ensures { λ r. ⌜ r ≡ numberAt (ticketStart place) (now (bytes .entry)) ⌝ }
+{
+    number_at(bytes, PROGRAM * (place / 8) + TICKET * (place % 8))
+}
+
 // The last number of a program, counted over all pads.
 pub fn last_at(bytes: &[u8], program: usize) -> u16
     requires { ⌜ (length (now bytes) ≡ 11328) × (program < 32) ⌝ }
@@ -215,48 +221,10 @@ pub fn entry_at(bytes: &[u8], place: usize) -> Entry
     entry_in(&bytes[at..])
 }
 
-// ---- which bytes are an image
-
-fn kinds_ok(bytes: &[u8]) -> bool
-    requires { ⌜ 11328 ≤ length (now bytes) ⌝ }
-    ensures { λ r. ⌜ r ≡ kindsOk (now (bytes .entry)) ⌝ }
+// The number that says whether the entry at a place is live.
+pub fn live_at(bytes: &[u8], place: usize) -> u16
+    requires { ⌜ (length (now bytes) ≡ 11328) × (place < 256) ⌝ }
+    ensures { λ r. ⌜ r ≡ numberAt (entryStart place) (now (bytes .entry)) ⌝ }
 {
-    let mut i: usize = 0;
-    while i < 256 {
-        let at = PROGRAM * (i / 8) + TICKET * (i % 8);
-        i = i + 1;
-        let n = number_at(bytes, at);
-        if 4 < n {
-            return false;
-        }
-    }
-    true
-}
-
-fn lives_ok(bytes: &[u8]) -> bool
-    requires { ⌜ 11328 ≤ length (now bytes) ⌝ }
-    ensures { λ r. ⌜ r ≡ livesOk (now (bytes .entry)) ⌝ }
-{
-    let mut i: usize = 0;
-    while i < 256 {
-        let at = ENTRIES + ENTRY * i;
-        i = i + 1;
-        let n = number_at(bytes, at);
-        if 1 < n {
-            return false;
-        }
-    }
-    true
-}
-
-pub fn is_image(bytes: &[u8]) -> bool
-    ensures { λ r. ⌜ r ≡ isImage (now (bytes .entry)) ⌝ }
-{
-    if bytes.len() != LENGTH {
-        return false;
-    }
-    if !kinds_ok(bytes) {
-        return false;
-    }
-    lives_ok(bytes)
+    number_at(bytes, ENTRIES + ENTRY * place)
 }

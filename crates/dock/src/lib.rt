@@ -1,9 +1,7 @@
-// The dock's side of a request: an entry found by its name, a place for an entry, and the dock's own check.
+// The dock's side of a request: the test of an entry's name, and the dock's own check.
 ghost use mathlib.Core.Path.{_≡_};
-ghost use Rattle.lists.specs.Lists.{firstIndex};
 ghost use Rattle.tables.specs.declared.{Name.Name, Tables.Tables};
-ghost use Rattle.tables.specs.Lookup.{isNamed, entryIn, entryOf};
-ghost use Rattle.tables.specs.Change.{isSpare};
+ghost use Rattle.tables.specs.Lookup.{isNamed, entryOf};
 ghost use Rattle.machine.specs.Dock.{dockRefusal};
 use rights::Rights;
 use tables::Entry;
@@ -23,36 +21,6 @@ pub fn is_named(e: Entry, n: Name) -> bool
         return e.live;
     }
     false
-}
-
-// The live entry of a name, or the free record.
-pub fn entry_in(es: [Entry; 256], n: Name) -> Entry
-    ensures { λ r. ⌜ r ≡ entryIn es n ⌝ }
-{
-    let mut i: usize = 0;
-    while i < 256 {
-        let e = es[i];
-        if is_named(e, n) {
-            return e;
-        }
-        i = i + 1;
-    }
-    Entry::none()
-}
-
-// The lowest free place, or 256.
-pub fn spare_place(es: [Entry; 256]) -> usize
-    ensures { λ r. ⌜ r ≡ firstIndex isSpare es ⌝ }
-{
-    let mut i: usize = 0;
-    while i < 256 {
-        let e = es[i];
-        if !e.live {
-            return i;
-        }
-        i = i + 1;
-    }
-    i
 }
 
 // ---- the dock's own check

@@ -25,7 +25,7 @@ const ENTRY: usize = 20;
 
 const ENTRIES: usize = 6208;
 
-fn put_numbers(bytes: &mut [u8], numbers: &[u16])
+pub fn put_numbers(bytes: &mut [u8], numbers: &[u16])
     requires { ⌜ length (now bytes) ≡ 2 * length (now numbers) ⌝ }
     ensures { λ _. ⌜ now (bytes .exit) ≡ bytesOf (now (numbers .entry)) ⌝ }
 {
@@ -51,7 +51,7 @@ fn kind_number(k: Kind) -> u16
     }
 }
 
-fn put_ticket(bytes: &mut [u8], k: Ticket)
+pub fn put_ticket(bytes: &mut [u8], k: Ticket)
     requires { ⌜ length (now bytes) ≡ 24 ⌝ }
     ensures { λ _. ⌜ now (bytes .exit) ≡ ticketBytes k ⌝ }
 {
@@ -113,7 +113,7 @@ fn flag(live: bool) -> u16
     if live { 1 } else { 0 }
 }
 
-fn put_entry(bytes: &mut [u8], e: Entry)
+pub fn put_entry(bytes: &mut [u8], e: Entry)
     requires { ⌜ length (now bytes) ≡ 20 ⌝ }
     ensures { λ _. ⌜ now (bytes .exit) ≡ entryBytes e ⌝ }
 {

@@ -1,8 +1,12 @@
-// A ticket and an entry found by name in the tables' image.
+// A ticket and an entry found by name in the tables' image, and a free place for one.
+ghost use Prim.Native.Nat.{_/_, _%_, _<_};
 ghost use mathlib.Core.Path.{_≡_};
 ghost use lib.ListN.{length};
-ghost use Rattle.tables.specs.Lookup.{lookup, entryOf};
+ghost use Rattle.lists.specs.Lists.{firstIndex};
+ghost use Rattle.tables.specs.Lookup.{isNamed, ticketsOf, lookup, entryOf};
+ghost use Rattle.tables.specs.Change.{isFree, isSpare};
 ghost use Rattle.image.specs.Image.{decode};
+ghost use Rattle.decode.specs.Places.{entriesIn};
 use tables::Entry;
 use tables::Name;
 use tables::Ticket;
@@ -30,18 +34,64 @@ pub fn ticket(image: &[u8], n: Name) -> Ticket
     Ticket::free()
 }
 
-// The live entry of a name, or the free record.
-pub fn entry(image: &[u8], n: Name) -> Entry
+// The place of the live entry of a name, or 256.
+pub fn entry_place(image: &[u8], n: Name) -> usize
     requires { ⌜ length (now image) ≡ 11328 ⌝ }
-    ensures { λ r. ⌜ r ≡ entryOf (decode (now (image .entry))) n ⌝ }
+    ensures { λ r. ⌜ r ≡ firstIndex (isNamed n) (entriesIn (now (image .entry))) ⌝ }
 {
     let mut i: usize = 0;
     while i < 256 {
         let e = decode::entry_at(image, i);
         if dock::is_named(e, n) {
-            return e;
+            return i;
         }
         i = i + 1;
     }
-    Entry::none()
+    i
+}
+
+// The live entry of a name, or the free record.
+pub fn entry(image: &[u8], n: Name) -> Entry
+    requires { ⌜ length (now image) ≡ 11328 ⌝ }
+    ensures { λ r. ⌜ r ≡ entryOf (decode (now (image .entry))) n ⌝ }
+{
+    let place = entry_place(image, n);
+    if 256 <= place {
+        return Entry::none();
+    }
+    decode::entry_at(image, place)
+}
+
+// The lowest free place among the eight of a program, counted over all pads, or 8.
+pub fn free_place(image: &[u8], program: usize) -> usize
+    requires { ⌜ (length (now image) ≡ 11328) × (program < 32) ⌝ }
+    ensures { λ r. ⌜ r ≡ firstIndex isFree (ticketsOf (decode (now (image .entry))) (program / 8) (program % 8)) ⌝ }
+{
+    let from = 8 * program;
+    let mut place: usize = 0;
+    while place < 8 {
+        let k = decode::ticket_at(image, from + place);
+        let kind = k.kind;
+        if !kind.is_live() {
+            return place;
+        }
+        place = place + 1;
+    }
+    place
+}
+
+// The lowest free place for an entry, or 256.
+pub fn spare_place(image: &[u8]) -> usize
+    requires { ⌜ length (now image) ≡ 11328 ⌝ }
+    ensures { λ r. ⌜ r ≡ firstIndex isSpare (entriesIn (now (image .entry))) ⌝ }
+{
+    let mut i: usize = 0;
+    while i < 256 {
+        let e = decode::entry_at(image, i);
+        if !e.live {
+            return i;
+        }
+        i = i + 1;
+    }
+    i
 }
