@@ -17,7 +17,7 @@ use Rattle.lists.proofs.Everywhere.{allAt-intro, allAt-elim}
 use Rattle.lists.proofs.Loops.{so-far}
 use Rattle.lists.proofs.Pigeonhole.{pigeonhole}
 use Rattle.chains.specs.Walk.{endFrom}
-use Rattle.chain_ends.specs.Ends.{Ends, stop, link, Ended, Loose, Cut, Settled, allEnd}
+use Rattle.chain_ends.specs.Ends.{Ends, stop, link, Ended, Loose, Cut, Settled, LinksListed, allEnd}
 
 -- ---- the end of a chain by places left
 module _ (up : List ℕ) where
@@ -193,50 +193,65 @@ module _ (up : List ℕ) (at : ℕ) (long : length up ≡ 256) where
                   let v : getD (set after at 256) i 0 ≡ getD after i 0 = getD-set-other after at i 256 0 (eqb-false i at p) in
                   inr (record { cut = omega (arith, v, x .cut); ended = x .ended })
 
--- ---- all walks: the first i places
-pub record Walked (first : List ℕ) (i : ℕ) (up : List ℕ) : Type 0 where
+-- ---- all walks: from the first i of the listed places
+pub record Walked (first places : List ℕ) (i : ℕ) (up : List ℕ) : Type 0 where
   pub cut : Cut first up
-  pub ended : (j : ℕ) → j < i → Ended first j
+  pub ended : (j : ℕ) → j < i → Ended first (getD places j 0)
 
-pub walked-none : (first : List ℕ) → Walked first 0 first
-walked-none first = record { cut = cut-none first; ended = λ j h. absurd (omega arith) }
+pub walked-none : (first places : List ℕ) → Walked first places 0 first
+walked-none first places = record { cut = cut-none first; ended = λ j h. absurd (omega arith) }
 
-module _ (first : List ℕ) (i : ℕ) (up : List ℕ) (w : Walked first i up) (long : length first ≡ 256) (h : i < 256) where
-  pub walked-skip : 256 ≤ getD up i 0 → Walked first (i + 1) up
-  walked-skip s = record { cut = w .cut; ended = so-far i (w .ended) (was-ended first up (w .cut) {d = 0} (stop {i = i} (omega (arith, s, w .cut .long, long)))) }
+module _ (first places : List ℕ) (i : ℕ) (up : List ℕ) (w : Walked first places i up) (long : length first ≡ 256) (at : ℕ) (here : at ≡ getD places i 0) where
+  pub walked-skip : 256 ≤ getD up at 0 → Walked first places (i + 1) up
+  walked-skip s = record {
+    cut = w .cut;
+    ended = so-far i (w .ended) (subst (Ended first) here (was-ended first up (w .cut) {d = 0} (stop {i = at} (omega (arith, s, w .cut .long, long)))));
+  }
 
-  module _ (after : List ℕ) (r : Bool) (s : Settled up after i 256 r) where
-    pub walked-more : r ≡ true → Walked first (i + 1) after
+  module _ (after : List ℕ) (r : Bool) (s : Settled up after at 256 r) where
+    pub walked-more : r ≡ true → Walked first places (i + 1) after
     walked-more q = record {
       cut = cut-more first up after (w .cut) (s .cut q);
-      ended = so-far i (w .ended) (was-ended first up (w .cut) (s .ended q .ends));
+      ended = so-far i (w .ended) (subst (Ended first) here (was-ended first up (w .cut) (s .ended q .ends)));
     }
 
-    pub walked-bad : r ≡ false → false ≡ allEnd first
+    pub walked-bad : at < 256 → r ≡ false → false ≡ allEnd first
     unfolding allEnd
-    walked-bad q = sym (cannot-pass (allAt ends 0 first) bad)
+    walked-bad h q = sym (cannot-pass (allAt ends 0 first) bad)
       where
         ends : ℕ → ℕ → Bool
         ends j next = ltb (endFrom 256 first j) 256
 
         bad : allAt ends 0 first ≡ true → ⊥
         bad a =
-            let l = ltb-true (endFrom 256 first i) 256 (allAt-elim 0 ends first a i (omega (arith, long, h))) in
-            let e = came first 256 i (omega (arith, l, long)) in
+            let l = ltb-true (endFrom 256 first at) 256 (allAt-elim 0 ends first a at (omega (arith, long, h))) in
+            let e = came first 256 at (omega (arith, l, long)) in
             let t = still-ends first up (w .cut) (e .ends) in
             let m = s .endless q (t .links) (t .ends) in
             omega (arith, m, t .few, e .few)
 
-pub walked-all : (first : List ℕ) (i : ℕ) (up : List ℕ) → Walked first i up → length first ≡ 256 → 256 ≤ i → true ≡ allEnd first
-unfolding allEnd
-walked-all first i up w long h = sym (allAt-intro 0 ends first (λ j b. lt-ltb (endFrom 256 first j) 256 (at j b)))
-  where
-    ends : ℕ → ℕ → Bool
-    ends j next = ltb (endFrom 256 first j) 256
+module _ (first places : List ℕ) (i : ℕ) (up : List ℕ) (w : Walked first places i up) (long : length first ≡ 256) (listed : LinksListed first places)
+    (all : length places ≤ i) where
+  -- a place without a link is a chain's end
+  each-ended : (p : ℕ) → p < 256 → Ended first p
+  each-ended p h = go (case (ltb (getD first p 0) 256))
+    where
+      go : Case (ltb (getD first p 0) 256) → Ended first p
+      go (pass e) =
+          let s = listed p h (ltb-true (getD first p 0) 256 e) in
+          subst (Ended first) (s .here) (w .ended (s .at) (omega (arith, s .low, all)))
+      go (fail e) = record { links = 0; ends = stop {i = p} (omega (arith, ltb-false (getD first p 0) 256 e, long)) }
 
-    at : (j : ℕ) → j < length first → endFrom 256 first j < 256
-    at j b =
-        let e = w .ended j (omega (arith, long, h, b)) in
-        let few = few-links first b (e .ends) in
-        let l = enough first 256 j (e .links) b (e .ends) (omega (arith, few, long)) in
-        omega (arith, l, long)
+  pub walked-all : true ≡ allEnd first
+  unfolding allEnd
+  walked-all = sym (allAt-intro 0 ends first (λ j b. lt-ltb (endFrom 256 first j) 256 (at j b)))
+    where
+      ends : ℕ → ℕ → Bool
+      ends j next = ltb (endFrom 256 first j) 256
+
+      at : (j : ℕ) → j < length first → endFrom 256 first j < 256
+      at j b =
+          let e = each-ended j (omega (arith, long, b)) in
+          let few = few-links first b (e .ends) in
+          let l = enough first 256 j (e .links) b (e .ends) (omega (arith, few, long)) in
+          omega (arith, l, long)

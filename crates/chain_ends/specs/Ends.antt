@@ -8,6 +8,7 @@ use lib.Dec.{ltb}
 use lib.ListN.{length, getD}
 use Rattle.lists.specs.Lists.{allAt}
 use Rattle.chains.specs.Walk.{endFrom}
+use Rattle.listing.specs.Listing.{Spot}
 
 -- the chain from a place ends, after so many links
 pub data Ends (up : List ℕ) : ℕ → ℕ → Type 0 where
@@ -33,6 +34,10 @@ pub record Settled (before after : List ℕ) (at left : ℕ) (r : Bool) : Type 0
   pub ended : r ≡ true → Ended before at
   pub cut : r ≡ true → Cut before after
   pub endless : r ≡ false → (d : ℕ) → Ends before at d → left ≤ d
+
+-- every place with a link is one of the listed
+abbrev pub LinksListed : List ℕ → List ℕ → Type 0
+LinksListed up places = (p : ℕ) → p < 256 → getD up p 0 < 256 → Spot places (length places) p
 
 -- the chain from each place ends
 unfoldable pub allEnd : List ℕ → Bool

@@ -2,7 +2,8 @@
 ghost use mathlib.Core.Path.{_≡_};
 ghost use Prim.Native.Nat.{_<_};
 ghost use lib.ListN.{length};
-ghost use Rattle.chain_ends.specs.Ends.{Settled, allEnd};
+ghost use Rattle.listing.specs.Listing.{AllBelow};
+ghost use Rattle.chain_ends.specs.Ends.{Settled, LinksListed, allEnd};
 
 // Does the chain from a place end? Its links are cut behind the walk, so that no link is followed twice.
 fn settle(up: &mut [u16], at: usize, left: usize) -> bool
@@ -23,14 +24,14 @@ fn settle(up: &mut [u16], at: usize, left: usize) -> bool
     true
 }
 
-// Every chain of parents ends. What was found to end is cut off.
-pub fn chains_end(up: &mut [u16]) -> bool
-    requires { ⌜ length (now up) ≡ 256 ⌝ }
+// Every chain of parents ends: those from the listed places, which all links are among. What was found to end is cut off.
+pub fn chains_end(up: &mut [u16], hung: &[u16]) -> bool
+    requires { ⌜ (length (now up) ≡ 256) × (AllBelow 256 (now hung) × LinksListed (now up) (now hung)) ⌝ }
     ensures { λ r. ⌜ r ≡ allEnd (now (up .entry)) ⌝ }
 {
     let mut i: usize = 0;
-    while i < 256 {
-        let at = i;
+    while i < hung.len() {
+        let at = chains::wide(hung[i]);
         i = i + 1;
         if up[at] < 256 {
             if !settle(up, at, 256) {

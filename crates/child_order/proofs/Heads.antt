@@ -22,6 +22,8 @@ use Rattle.tables.proofs.KindLaws.{live-child, live-grant, live-head, child-hea
 use Rattle.chains.specs.Walk.{parentAt, hasParent, endFrom}
 use Rattle.index.specs.Places.{placed, nameAt, placeIn, Flattened, Numbered}
 use Rattle.index.proofs.Laws.{every-placed, placed-every, lookup-place, place-found, live-place, name-place}
+use Rattle.listing.specs.Listing.{TicketsListed}
+use Rattle.listing.proofs.Laws.{none-listed}
 use Rattle.child_order.specs.Parts.{childOk, childrenOk, Ups, headsOk}
 use Rattle.tables.specs.Kinds.{isLive, isGrant, isHead, isChild}
 
@@ -209,3 +211,12 @@ module _ (t : Tables) (tickets : List Ticket) (lasts numbers : List ℕ) (flat :
 
         tests : t3 t ≡ true → headsOk tickets up ≡ true
         tests e = heads-from (λ p h. implies-intro (isChild (ticket p .kind)) _ (λ c. child-head-reached e p h c))
+
+  -- ---- no child
+  pub no-children : (places : List ℕ) → TicketsListed (λ k. isChild (k .kind)) tickets places → length places ≡ 0 → true ≡ t3 t
+  unfolding t3
+  no-children places listed z =
+      sym
+      (placed-every t (ix .sized) isChild (order.childOk t)
+      (λ p h c. absurd
+      (none-listed free (λ k. isChild (k .kind)) tickets 256 places (length places) listed z p h (ap (λ (k : Ticket). isChild (k .kind)) (flat .same p h) ∙ c))))

@@ -58,10 +58,14 @@ fn heads_ok(children: &[u16], up: &[u16]) -> bool
     true
 }
 
+// T3. Where there is no child, there is nothing to link.
 pub fn chains_ok(image: &[u8], numbers: &[u16], children: &[u16]) -> bool
     requires { ⌜ (length (now image) ≡ 11328) × ((length (now numbers) ≡ 256) × TicketsListed (λ k. isChild (k .kind)) (ticketsIn (now image)) (now children)) ⌝ }
     ensures { λ r. ⌜ ((t : Tables) → Flattened t (ticketsIn (now (image .entry))) (lastsIn (now (image .entry))) → Numbered t (now (numbers .entry)) → r ≡ t3 t) ⌝ }
 {
+    if children.len() == 0 {
+        return true;
+    }
     let mut up = [256u16; 256];
     if !children_ok(image, numbers, children, &mut up) {
         return false;

@@ -1,4 +1,5 @@
 mod Noting
+mod Passing
 mod NoteSteps
 pub mod Grants
 pub mod Laws

@@ -4,7 +4,7 @@
 use Prim.Native.Nat.{ℕ, _+_, _≤_, _<_}
 use native.Mathlib.Omega.{arith}
 use mathlib.Core.Path.{_≡_, sym, ap, subst, _∙_}
-use mathlib.Core.Bool.{Bool, true, false, _&&_}
+use mathlib.Core.Bool.{Bool, true, false, _&&_, cond}
 use mathlib.Core.List.{List}
 use lib.Dec.{eqb}
 use lib.ListN.{length, getD, set, replicate, length-replicate, length-set, List·getD-eq-default}
@@ -12,13 +12,13 @@ use lib.Seq.{getD-set-same, getD-set-other}
 use borrow.Author.Tests.{eqb-true, eqb-false, eq-eqb}
 use borrow.Author.Count.{below-more}
 use Rattle.lists.specs.Tests.{implies}
-use Rattle.lists.proofs.Tests.{Case, pass, fail, case, no-true, contradiction, cannot-pass, and-l, and-r, and-intro, implies-intro, implies-elim}
+use Rattle.lists.proofs.Tests.{Case, pass, fail, case, contradiction, cannot-pass, cannot-fail, and-l, and-r, and-intro, implies-intro, implies-elim}
 use Rattle.lists.proofs.Everywhere.{all-intro, all-elim, noTwo-intro, noTwo-elim}
 use Rattle.lists.proofs.Reading.{same-all}
 use Rattle.tables.specs.declared.{Ticket.Ticket, Entry.Entry}
 use Rattle.tables.specs.Names.{free, noEntry}
 use Rattle.tables.specs.Order.{underStore, grantOk}
-use Rattle.entry_notes.specs.Notes.{everyLive, placeOf, hasGrant, namesApart, Noter, NotesOf, Noting}
+use Rattle.entry_notes.specs.Notes.{everyLive, placeOf, hasGrant, namesApart, Noter, NotesOf}
 
 -- the free record is no grant
 no-grant : (e : Entry) → grantOk e free ≡ false
@@ -31,12 +31,40 @@ no-grant e = go (case (underStore e))
 
 module _ (tickets : List Ticket) (numbers : List ℕ) where
   -- as the code finds it
-  pub has-at : (e : Entry) (p : ℕ) → p ≡ placeOf numbers e → (k : Ticket) → k ≡ getD tickets p free → (b : Bool) → b ≡ grantOk e k → hasGrant tickets numbers e ≡ b
+  has-at : (e : Entry) (p : ℕ) → p ≡ placeOf numbers e → (k : Ticket) → k ≡ getD tickets p free → (b : Bool) → b ≡ grantOk e k → hasGrant tickets numbers e ≡ b
   unfolding hasGrant
   has-at e p q k z b r = ap (λ (x : ℕ). grantOk e (getD tickets x free)) (sym q) ∙ ap (grantOk e) (sym z) ∙ sym r
 
-  pub has-none : (e : Entry) (p : ℕ) → p ≡ placeOf numbers e → length tickets ≤ p → hasGrant tickets numbers e ≡ false
+  has-none : (e : Entry) (p : ℕ) → p ≡ placeOf numbers e → length tickets ≤ p → hasGrant tickets numbers e ≡ false
   has-none e p q h = has-at e p q free (sym (List·getD-eq-default tickets free h)) false (sym (no-grant e))
+
+  -- the place of the grant, 256 where there is none that suits: as it is found
+  module _ (e : Entry) (p : ℕ) (place : p ≡ placeOf numbers e) where
+    pub place-missing : length tickets ≤ p → 256 ≡ cond (hasGrant tickets numbers e) (placeOf numbers e) 256
+    place-missing h = sym (ap (λ (b : Bool). cond b (placeOf numbers e) 256) (has-none e p place h))
+
+    module _ (k : Ticket) (here : k ≡ getD tickets p free) (b : Bool) (asked : b ≡ grantOk e k) where
+      pub place-unfit : b ≡ false → 256 ≡ cond (hasGrant tickets numbers e) (placeOf numbers e) 256
+      place-unfit f = sym (ap (λ (x : Bool). cond x (placeOf numbers e) 256) (has-at e p place k here b asked ∙ f))
+
+      pub place-fit : b ≡ true → p ≡ cond (hasGrant tickets numbers e) (placeOf numbers e) 256
+      place-fit y = place ∙ sym (ap (λ (x : Bool). cond x (placeOf numbers e) 256) (has-at e p place k here b asked ∙ y))
+
+  -- and what it says
+  module _ (e : Entry) (p : ℕ) (found : p ≡ cond (hasGrant tickets numbers e) (placeOf numbers e) 256) where
+    at-place : hasGrant tickets numbers e ≡ true → p ≡ placeOf numbers e
+    at-place h = found ∙ ap (λ (b : Bool). cond b (placeOf numbers e) 256) h
+
+    pub grant-none : 256 ≤ p → length tickets ≡ 256 → hasGrant tickets numbers e ≡ false
+    grant-none h z = cannot-pass (hasGrant tickets numbers e) (λ y. contradiction y (has-none e p (at-place y) (omega (arith, h, z))))
+
+    pub grant-some : p < 256 → hasGrant tickets numbers e ≡ true
+    grant-some h =
+        cannot-fail (hasGrant tickets numbers e)
+        (λ n. let z : p ≡ 256 = found ∙ ap (λ (b : Bool). cond b (placeOf numbers e) 256) n in omega (arith, z, h))
+
+    pub grant-at-place : p < 256 → p ≡ placeOf numbers e
+    grant-at-place h = at-place (grant-some h)
 
 module _ (tickets : List Ticket) (numbers : List ℕ) (es : List Entry) where
   abbrev at : ℕ → Entry
@@ -85,11 +113,8 @@ module _ (tickets : List Ticket) (numbers : List ℕ) (es : List Entry) where
       here : p ≡ placeOf numbers (at i)
       here = place ∙ ap (placeOf numbers) this
 
-      pub noted-bad : has read ≡ false → (after : List ℕ) → Noting tickets numbers es after false
-      noted-bad b after = record {
-        same = sym (cannot-pass (everyLive has es && namesApart numbers es) bad);
-        noted = λ e. no-true e;
-      }
+      pub noted-bad : has read ≡ false → (everyLive has es && namesApart numbers es) ≡ false
+      noted-bad b = cannot-pass (everyLive has es && namesApart numbers es) bad
         where
           bad : (everyLive has es && namesApart numbers es) ≡ true → ⊥
           bad e =
@@ -97,12 +122,9 @@ module _ (tickets : List Ticket) (numbers : List ℕ) (es : List Entry) where
               (implies-elim (at i .live) (has (at i)) (all-elim noEntry (λ x. implies (x .live) (has x)) es (and-l (everyLive has es) (namesApart numbers es) e) i h) live)
               (ap has (sym this) ∙ b)
 
-      pub noted-twice : getD notes p 256 < 256 → (after : List ℕ) → Noting tickets numbers es after false
+      pub noted-twice : getD notes p 256 < 256 → (everyLive has es && namesApart numbers es) ≡ false
       unfolding namesApart
-      noted-twice b after = record {
-        same = sym (cannot-pass (everyLive has es && namesApart numbers es) two);
-        noted = λ e. no-true e;
-      }
+      noted-twice b = cannot-pass (everyLive has es && namesApart numbers es) two
         where
           first : Noter numbers es i p (getD notes p 256)
           first = so .kept .noter p (λ z. omega (arith, z, b))
@@ -154,16 +176,12 @@ module _ (tickets : List Ticket) (numbers : List ℕ) (es : List Entry) where
                 let z = old q (eqb-false q p e) in
                 subst (λ (j : ℕ). Noter numbers es (i + 1) q j) (sym z) (later q (getD notes q 256) (so .kept .noter q (λ x. ne (z ∙ x))))
 
-  pub noted-end : (i : ℕ) (notes : List ℕ) → length es ≡ i → i ≡ 256 → SoFar i notes → Noting tickets numbers es notes true
+  pub noted-end : (i : ℕ) (notes : List ℕ) → length es ≡ i → SoFar i notes → (everyLive has es && namesApart numbers es) ≡ true
   unfolding namesApart
-  noted-end i notes h z so = record {
-    same =
-        sym
-        (and-intro (all-intro noEntry (λ x. implies (x .live) (has x)) es (λ j b. implies-intro (at j .live) (has (at j)) (so .grants j (omega arith))))
-        (noTwo-intro noEntry (λ x. x .live) (λ x y. eqb (placeOf numbers x) (placeOf numbers y)) es
-        (λ j k p q l m. cannot-pass (eqb (placeOf numbers (at j)) (placeOf numbers (at k))) (two j k p (omega arith) l m))));
-    noted = λ e. subst (λ (n : ℕ). NotesOf numbers es n notes) z (so .kept);
-  }
+  noted-end i notes h so =
+      and-intro (all-intro noEntry (λ x. implies (x .live) (has x)) es (λ j b. implies-intro (at j .live) (has (at j)) (so .grants j (omega arith))))
+      (noTwo-intro noEntry (λ x. x .live) (λ x y. eqb (placeOf numbers x) (placeOf numbers y)) es
+      (λ j k p q l m. cannot-pass (eqb (placeOf numbers (at j)) (placeOf numbers (at k))) (two j k p (omega arith) l m)))
     where
       two : (j k : ℕ) → j < k → k < i → at j .live ≡ true → at k .live ≡ true → eqb (placeOf numbers (at j)) (placeOf numbers (at k)) ≡ true → ⊥
       two j k p q l m e =

@@ -39,8 +39,9 @@ pub record NotesOf (numbers : List ℕ) (es : List Entry) (i : ℕ) (notes : Lis
   pub noted : (j : ℕ) → j < i → getD es j noEntry .live ≡ true → getD notes (placeOf numbers (getD es j noEntry)) 256 ≡ j
   pub noter : (p : ℕ) → (getD notes p 256 ≡ 256 → ⊥) → Noter numbers es i p (getD notes p 256)
 
-pub record Noting (tickets : List Ticket) (numbers : List ℕ) (es : List Entry) (notes : List ℕ) (r : Bool) : Type 0 where
-  pub same : r ≡ (everyLive (hasGrant tickets numbers) es && namesApart numbers es)
+-- the answer, where it is known whether each entry is live or not, and the notes of all
+pub record Noting (lives : Bool) (tickets : List Ticket) (numbers : List ℕ) (es : List Entry) (notes : List ℕ) (r : Bool) : Type 0 where
+  pub same : r ≡ (lives && (everyLive (hasGrant tickets numbers) es && namesApart numbers es))
   pub noted : r ≡ true → NotesOf numbers es 256 notes
 
 -- ---- the entry of a name, by its note

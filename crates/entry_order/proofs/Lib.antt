@@ -1,4 +1,5 @@
 mod TakenSteps
 mod Linking
+mod Hanging
 mod Parents
 mod Whole

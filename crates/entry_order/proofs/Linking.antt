@@ -26,11 +26,11 @@ unfolding parentEntryOk
 no-parent e = refl
 
 module _ (numbers notes : List ℕ) (es : List Entry) (e : Entry) where
-  free-fits : isHung e ≡ false → hasParent numbers notes es e ≡ true
+  pub free-fits : isHung e ≡ false → hasParent numbers notes es e ≡ true
   unfolding hasParent implies
   free-fits h = rw h
 
-  free-up : isHung e ≡ false → upOf numbers notes e ≡ 256
+  pub free-up : isHung e ≡ false → upOf numbers notes e ≡ 256
   unfolding upOf
   free-up h = rw h
 

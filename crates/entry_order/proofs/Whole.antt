@@ -1,16 +1,16 @@
--- T5 put together from what the five loops decide: the entries' grants and names, their parents, their chains, the roots' sheets, the taken
+-- T5 put together from what the loops decide: the entries' grants and names, their parents and chains, the roots' sheets, the taken
 -- grants' entries. A loop that says no refutes its part of T5; where all say yes, every part holds.
 use Prim.Native.Nat.{ℕ, _+_, _<_}
 use native.Mathlib.Omega.{arith}
-use mathlib.Core.Path.{_≡_, sym, ap, subst, _∙_}
+use mathlib.Core.Path.{_≡_, refl, sym, ap, subst, _∙_}
 use mathlib.Core.Bool.{Bool, true, false, not, _&&_}
-use mathlib.Core.List.{List}
+use mathlib.Core.List.{List, map}
 use lib.Dec.{eqb, leb, ltb}
 use lib.ListN.{length, getD, List·getD-eq-default}
 use borrow.Author.Tests.{eqb-true, eqb-false, leb-true, lt-ltb, le-ltb}
 use Rattle.lists.specs.Tests.{implies}
-use Rattle.lists.specs.Lists.{allAt}
-use Rattle.lists.proofs.Tests.{Case, pass, fail, case, no-true, contradiction, cannot-pass, both-ways, and-l, and-r, and-intro, implies-intro, implies-elim}
+use Rattle.lists.specs.Lists.{all, allAt}
+use Rattle.lists.proofs.Tests.{Case, pass, fail, case, no-true, contradiction, cannot-pass, both-ways, and-l, and-r, and-intro, and-false, implies-intro, implies-elim}
 use Rattle.lists.proofs.Everywhere.{all-intro, all-elim, allAt-intro, allAt-elim}
 use Rattle.tables.specs.declared.{Ticket.Ticket, Entry.Entry, Tables.Tables}
 use Rattle.tables.specs.Names.{free, noEntry}
@@ -25,7 +25,7 @@ use Rattle.entry_notes.proofs.Grants.{grantsOk, entryAt, grant-at, grants-told,
 use Rattle.entry_notes.proofs.Laws.{noted-all, entry-noted}
 use Rattle.chain_ends.specs.Ends.{allEnd}
 use Rattle.roots.specs.Marks.{Spanned, rootsIn}
-use Rattle.entry_order.specs.Parents.{Linking}
+use Rattle.entry_order.specs.Parents.{hasParent, upOf, hungOk}
 use Rattle.entry_order.specs.Order.{hasNote, takenNoted, EntryOrder}
 use Rattle.entry_order.proofs.Parents.{parentsOk, chainsOk, parents-told, chains-told}
 use Rattle.tables.specs.Kinds.{isGrant, isTaken}
@@ -151,24 +151,36 @@ module _ (t : Tables) (tickets : List Ticket) (lasts : List ℕ) (flat : Flatten
           (λ k. sym (its-entry p h k) ∙ every-placed t (ix .sized) isTaken (λ n k. entryOf t n .live) a p h k))
 
 -- ---- the answers, one loop after the other
-module _ (t : Tables) (numbers notes : List ℕ) where
-  refuted : (t5 t ≡ true → ⊥) → EntryOrder t numbers notes false
-  refuted h = record { same = sym (cannot-pass (t5 t) h); noted = λ e. no-true e }
+module _ (lives : Bool) (t : Tables) (numbers notes : List ℕ) where
+  refuted : (t5 t ≡ true → ⊥) → EntryOrder lives t numbers notes false
+  refuted h = record { same = sym (ap (λ (b : Bool). lives && b) (cannot-pass (t5 t) h) ∙ and-false lives); noted = λ e. no-true e }
 
-module _ (t : Tables) (tickets : List Ticket) (lasts : List ℕ) (flat : Flattened t tickets lasts) (es : List Entry) (e : es ≡ t .entries)
-    (numbers : List ℕ) (ix : Numbered t numbers) (spans : t2 t ≡ true) (notes : List ℕ) (r₁ : Bool) (noting : Noting tickets numbers es notes r₁) where
+module _ (lives : Bool) (t : Tables) (tickets : List Ticket) (lasts : List ℕ) (flat : Flattened t tickets lasts) (es : List Entry) (e : es ≡ t .entries)
+    (numbers : List ℕ) (ix : Numbered t numbers) (spans : t2 t ≡ true) (notes : List ℕ) (r₁ : Bool) (noting : Noting lives tickets numbers es notes r₁) where
   -- by the notes
-  n : Noting tickets numbers (t .entries) notes r₁
-  n = subst (λ (l : List Entry). Noting tickets numbers l notes r₁) e noting
+  n : Noting lives tickets numbers (t .entries) notes r₁
+  n = subst (λ (l : List Entry). Noting lives tickets numbers l notes r₁) e noting
 
-  pub bad-notes : r₁ ≡ false → EntryOrder t numbers notes false
-  bad-notes q = refuted t numbers notes (λ h. let p = parts-of t h in
-      contradiction
-      (n .same ∙ and-intro (grants-told t numbers ix tickets lasts flat ∙ p .grants) (names-told t numbers ix (p .grants) ∙ p .names)) q)
+  pub bad-notes : r₁ ≡ false → EntryOrder lives t numbers notes false
+  bad-notes q = record { same = sym (cannot-pass (lives && t5 t) bad); noted = λ y. no-true y }
+    where
+      bad : (lives && t5 t) ≡ true → ⊥
+      bad h =
+          let p = parts-of t (and-r lives (t5 t) h) in
+          contradiction
+          (n .same
+          ∙ and-intro (and-l lives (t5 t) h)
+          (and-intro (grants-told t numbers ix tickets lasts flat ∙ p .grants) (names-told t numbers ix (p .grants) ∙ p .names))) q
 
   module _ (yes₁ : r₁ ≡ true) where
-    both : (everyLive (hasGrant tickets numbers) (t .entries) && namesApart numbers (t .entries)) ≡ true
-    both = sym (n .same) ∙ yes₁
+    abbrev named : Bool
+    named = everyLive (hasGrant tickets numbers) (t .entries) && namesApart numbers (t .entries)
+
+    live : lives ≡ true
+    live = and-l lives named (sym (n .same) ∙ yes₁)
+
+    both : named ≡ true
+    both = and-r lives named (sym (n .same) ∙ yes₁)
 
     grants : grantsOk t ≡ true
     grants = sym (grants-told t numbers ix tickets lasts flat) ∙ and-l _ (namesApart numbers (t .entries)) both
@@ -182,40 +194,44 @@ module _ (t : Tables) (tickets : List Ticket) (lasts : List ℕ) (flat : Flatten
     noted : Noted t numbers notes
     noted = noted-all t numbers notes ix grants names of
 
-    module _ (up : List ℕ) (r₂ : Bool) (linking : Linking numbers notes es up r₂) where
-      -- by the parents
-      l : Linking numbers notes (t .entries) up r₂
-      l = subst (λ (s : List Entry). Linking numbers notes s up r₂) e linking
+    module _ (r₂ : Bool) (hanging : r₂ ≡ hungOk numbers notes es) where
+      abbrev fitting : Bool
+      fitting = all (hasParent numbers notes (t .entries)) (t .entries)
 
-      linked : r₂ ≡ parentsOk t
-      linked = l .same ∙ parents-told t numbers notes ix noted
+      abbrev ending : Bool
+      ending = allEnd (map (upOf numbers notes) (t .entries))
 
-      pub bad-links : r₂ ≡ false → EntryOrder t numbers notes false
-      bad-links q = refuted t numbers notes (λ h. contradiction (linked ∙ parts-of t h .parents) q)
+      -- by the parents and their chains
+      linked : r₂ ≡ (fitting && ending)
+      unfolding hungOk
+      linked = hanging ∙ ap (hungOk numbers notes) e
+
+      ended : parentsOk t ≡ true → ending ≡ chainsOk t
+      ended p = chains-told t numbers notes ix noted names p (map (upOf numbers notes) (t .entries)) refl
+
+      pub bad-hung : r₂ ≡ false → EntryOrder lives t numbers notes false
+      bad-hung q = refuted lives t numbers notes (λ h. let p = parts-of t h in
+          contradiction (linked ∙ and-intro (parents-told t numbers notes ix noted ∙ p .parents) (ended (p .parents) ∙ p .chains)) q)
 
       module _ (yes₂ : r₂ ≡ true) where
         parents : parentsOk t ≡ true
-        parents = sym linked ∙ yes₂
+        parents = sym (parents-told t numbers notes ix noted) ∙ and-l fitting ending (sym linked ∙ yes₂)
 
-        -- by the chains
-        ended : allEnd up ≡ chainsOk t
-        ended = chains-told t numbers notes ix noted names parents up (l .ups yes₂)
-
-        pub bad-chains : (r₃ : Bool) → r₃ ≡ allEnd up → r₃ ≡ false → EntryOrder t numbers notes false
-        bad-chains r₃ c q = refuted t numbers notes (λ h. contradiction (c ∙ ended ∙ parts-of t h .chains) q)
+        chains : chainsOk t ≡ true
+        chains = sym (ended parents) ∙ and-r fitting ending (sym linked ∙ yes₂)
 
         -- by the roots' sheets
-        apart : (r₄ : Bool) → (Spanned es → r₄ ≡ rootsIn es) → r₄ ≡ rootsOk t
+        apart : (r₃ : Bool) → (Spanned es → r₃ ≡ rootsIn es) → r₃ ≡ rootsOk t
         unfolding rootsIn rootsOk
-        apart r₄ f = subst (λ (s : List Entry). (Spanned s → r₄ ≡ rootsIn s)) e f (spanned t numbers ix spans grants)
+        apart r₃ f = subst (λ (s : List Entry). (Spanned s → r₃ ≡ rootsIn s)) e f (spanned t numbers ix spans grants)
 
-        pub bad-roots : (r₄ : Bool) → (Spanned es → r₄ ≡ rootsIn es) → r₄ ≡ false → EntryOrder t numbers notes false
-        bad-roots r₄ f q = refuted t numbers notes (λ h. contradiction (apart r₄ f ∙ parts-of t h .roots) q)
+        pub bad-roots : (r₃ : Bool) → (Spanned es → r₃ ≡ rootsIn es) → r₃ ≡ false → EntryOrder lives t numbers notes false
+        bad-roots r₃ f q = refuted lives t numbers notes (λ h. contradiction (apart r₃ f ∙ parts-of t h .roots) q)
 
         -- by the taken grants
-        pub last-part : (r₃ : Bool) → r₃ ≡ allEnd up → r₃ ≡ true → (r₄ : Bool) → (Spanned es → r₄ ≡ rootsIn es) → r₄ ≡ true
-            → (r : Bool) → r ≡ takenNoted notes tickets → EntryOrder t numbers notes r
-        last-part r₃ c yes₃ r₄ f yes₄ r k = record { same = both-ways r (t5 t) to from; noted = λ q. noted }
+        pub last-part : (r₃ : Bool) → (Spanned es → r₃ ≡ rootsIn es) → r₃ ≡ true
+            → (r : Bool) → r ≡ takenNoted notes tickets → EntryOrder lives t numbers notes r
+        last-part r₃ f yes₃ r k = record { same = both-ways r (t5 t) to from ∙ sym (ap (λ (b : Bool). b && t5 t) live); noted = λ q. noted }
           where
             told : r ≡ takenOk t
             told = k ∙ taken-told t tickets lasts flat numbers ix notes noted of
@@ -225,8 +241,8 @@ module _ (t : Tables) (tickets : List Ticket) (lasts : List ℕ) (flat : Flatten
               names = names;
               grants = grants;
               parents = parents;
-              chains = sym (c ∙ ended) ∙ yes₃;
-              roots = sym (apart r₄ f) ∙ yes₄;
+              chains = chains;
+              roots = sym (apart r₃ f) ∙ yes₃;
               taken = sym told ∙ q;
             })
 

@@ -1,7 +1,7 @@
 -- The parents of entries by places.
 use Prim.Native.Nat.{ℕ}
 use mathlib.Core.Path.{_≡_}
-use mathlib.Core.Bool.{Bool, true, cond}
+use mathlib.Core.Bool.{Bool, true, _&&_, cond}
 use mathlib.Core.List.{List, map}
 use Rattle.lists.specs.Tests.{implies}
 use Rattle.lists.specs.Lists.{all}
@@ -9,6 +9,7 @@ use Rattle.tables.specs.declared.Entry.{Entry}
 use Rattle.tables.specs.Order.{parentEntryOk}
 use Rattle.listing.specs.Listing.{isHung}
 use Rattle.entry_notes.specs.Notes.{noteOf, entryBy}
+use Rattle.chain_ends.specs.Ends.{allEnd}
 
 -- "A parent entry is live, has the pass on right and contains the entry's sheets and rights."
 unfoldable pub hasParent : List ℕ → List ℕ → List Entry → Entry → Bool
@@ -22,3 +23,7 @@ upOf numbers notes e = cond (isHung e) (noteOf numbers notes (e .parent)) 256
 pub record Linking (numbers notes : List ℕ) (es : List Entry) (up : List ℕ) (r : Bool) : Type 0 where
   pub same : r ≡ all (hasParent numbers notes es) es
   pub ups : r ≡ true → up ≡ map (upOf numbers notes) es
+
+-- every parent is there, and every chain of parents ends
+unfoldable pub hungOk : List ℕ → List ℕ → List Entry → Bool
+hungOk numbers notes es = all (hasParent numbers notes es) es && allEnd (map (upOf numbers notes) es)

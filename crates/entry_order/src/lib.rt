@@ -6,10 +6,11 @@ ghost use lib.ListN.{length, replicate};
 ghost use Rattle.tables.specs.declared.{Ticket.Ticket, Tables.Tables};
 ghost use Rattle.tables.specs.Kinds.{isTaken};
 ghost use Rattle.tables.specs.Order.{t2};
+ghost use Rattle.image.specs.Image.{livesOk};
 ghost use Rattle.index.specs.Places.{Flattened, Numbered};
 ghost use Rattle.decode.specs.Places.{ticketsIn, lastsIn, entriesIn};
 ghost use Rattle.listing.specs.Listing.{TicketsListed, EntriesListed, AllBelow, isHung};
-ghost use Rattle.entry_order.specs.Parents.{Linking};
+ghost use Rattle.entry_order.specs.Parents.{Linking, hungOk};
 ghost use Rattle.entry_order.specs.Order.{takenNoted, EntryOrder};
 
 // Writes at each entry's place the place of its parent entry; `up` is lent with 256 at each place. The answer is no where a parent is missing
@@ -37,6 +38,21 @@ fn link_entries(image: &[u8], numbers: &[u16], notes: &[u16], hung: &[u16], up: 
     true
 }
 
+// The parents of the entries that hang under others, and their chains. Where none does, there is nothing to link.
+fn hung_ok(image: &[u8], numbers: &[u16], notes: &[u16], hung: &[u16]) -> bool
+    requires { ⌜ (length (now image) ≡ 11328) × ((length (now numbers) ≡ 256) × ((length (now notes) ≡ 256) × EntriesListed isHung (entriesIn (now image)) (now hung))) ⌝ }
+    ensures { λ r. ⌜ r ≡ hungOk (now (numbers .entry)) (now (notes .entry)) (entriesIn (now (image .entry))) ⌝ }
+{
+    if hung.len() == 0 {
+        return true;
+    }
+    let mut up: [u16; 256] = [256; 256];
+    if !link_entries(image, numbers, notes, hung, &mut up) {
+        return false;
+    }
+    chain_ends::chains_end(&mut up, hung)
+}
+
 // Every taken grant has its entry.
 fn taken_ok(taken: &[u16], notes: &[u16]) -> bool
     requires { ⌜ (length (now notes) ≡ 256) × AllBelow 256 (now taken) ⌝ }
@@ -53,22 +69,19 @@ fn taken_ok(taken: &[u16], notes: &[u16]) -> bool
     true
 }
 
-// T5. `notes` is lent with 256 at each place; where the answer is yes, it then has the place of its entry at each grant's place.
+// T5, and whether each entry is live or not. `notes` is lent with 256 at each place; where the answer is yes, it then has the place of its
+// entry at each grant's place.
 pub fn entries_ok(image: &[u8], numbers: &[u16], taken: &[u16], notes: &mut [u16]) -> bool
     requires { ⌜ (length (now image) ≡ 11328) × ((length (now numbers) ≡ 256) × (TicketsListed (λ k. isTaken (k .kind)) (ticketsIn (now image)) (now taken) × (now notes ≡ replicate 256 256))) ⌝ }
-    ensures { λ r. ⌜ ((t : Tables) → Flattened t (ticketsIn (now (image .entry))) (lastsIn (now (image .entry))) → entriesIn (now (image .entry)) ≡ t .entries → Numbered t (now (numbers .entry)) → t2 t ≡ true → EntryOrder t (now (numbers .entry)) (now (notes .exit)) r) ⌝ }
+    ensures { λ r. ⌜ ((t : Tables) → Flattened t (ticketsIn (now (image .entry))) (lastsIn (now (image .entry))) → entriesIn (now (image .entry)) ≡ t .entries → Numbered t (now (numbers .entry)) → t2 t ≡ true → EntryOrder (livesOk (now (image .entry))) t (now (numbers .entry)) (now (notes .exit)) r) ⌝ }
 {
-    if !entry_notes::note_entries(image, numbers, notes) {
-        return false;
-    }
     let mut roots = [0u16; 256];
     let mut hung = [0u16; 256];
-    let n = listing::list_entries(image, &mut roots, &mut hung);
-    let mut up: [u16; 256] = [256; 256];
-    if !link_entries(image, numbers, notes, &hung[..n.hung], &mut up) {
+    let n = entry_notes::note_entries(image, numbers, notes, &mut roots, &mut hung);
+    if !n.ok {
         return false;
     }
-    if !chain_ends::chains_end(&mut up) {
+    if !hung_ok(image, numbers, notes, &hung[..n.hung]) {
         return false;
     }
     if !roots::roots_apart(image, &roots[..n.roots]) {

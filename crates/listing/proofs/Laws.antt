@@ -31,6 +31,10 @@ module _ {A : Type 0} (d : A) (test : A → Bool) (xs : List A) (n : ℕ) (place
       go (pass t) = listed-all P h p b t
       go (fail t) = other p b t
 
+  -- where none is listed, none passes
+  pub none-listed : count ≡ 0 → (p : ℕ) → p < n → test (getD xs p d) ≡ true → ⊥
+  none-listed z p b t = let s = listing .all p b t in omega (arith, s .low, z)
+
   module _ (f : ℕ → A → Bool) (long : length xs ≡ n) where
     pub listed-allAt : ((j : ℕ) → j < count → f (getD places j 0) (getD xs (getD places j 0) d) ≡ true)
         → ((p : ℕ) (x : A) → test x ≡ false → f p x ≡ true) → allAt f 0 xs ≡ true

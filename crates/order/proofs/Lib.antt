@@ -1,3 +1,4 @@
 mod Numbered
 mod Rules
 mod Far
+pub mod Written

@@ -1,47 +1,77 @@
--- The rules together: one that is broken settles the answer, and where all others hold, the last one does.
+-- The rules together, and what makes bytes an image: one that is broken settles the answer, and where all others hold, the last one does.
+use Prim.Native.Nat.{ℕ}
 use mathlib.Core.Path.{_≡_, sym}
-use mathlib.Core.Bool.{true, false, _&&_}
+use mathlib.Core.Bool.{Bool, true, false, _&&_}
+use mathlib.Core.List.{List}
+use lib.ListN.{length}
+use borrow.Author.Tests.{eq-eqb}
 use Rattle.lists.proofs.Tests.{and-l, and-r, and-intro, cannot-pass, contradiction}
 use Rattle.tables.specs.declared.Tables.{Tables}
 use Rattle.tables.specs.Order.{t1, t2, t3, t4, t5, t6, inOrder}
+use Rattle.image.specs.Image.{kindsOk, livesOk, isImage}
 
-module _ (t : Tables) where
-  -- ---- T1, T2 and T4 are tested together
-  programs-hold : inOrder t ≡ true → (t1 t && t2 t && t4 t) ≡ true
-  unfolding inOrder
+module _ (image : List ℕ) (long : length image ≡ 11328) (t : Tables) where
+  -- what is to be decided
+  abbrev whole : Bool
+  whole = isImage image && inOrder t
+
+  -- ---- T1, T2 and T4 are tested together with the kinds
+  abbrev programs : Bool
+  programs = kindsOk image && (t1 t && t2 t && t4 t)
+
+  programs-hold : whole ≡ true → programs ≡ true
+  unfolding inOrder isImage
   programs-hold e =
+      let k : kindsOk image ≡ true = search (and-l, and-r) depth 8 in
       let a : t1 t ≡ true = search (and-l, and-r) depth 8 in
       let b : t2 t ≡ true = search (and-l, and-r) depth 8 in
       let d : t4 t ≡ true = search (and-l, and-r) depth 8 in
-      and-intro (and-intro a b) d
+      and-intro k (and-intro (and-intro a b) d)
 
-  chains-hold : inOrder t ≡ true → t3 t ≡ true
+  chains-hold : whole ≡ true → t3 t ≡ true
   unfolding inOrder
   chains-hold e = search (and-l, and-r) depth 8
 
-  entries-hold : inOrder t ≡ true → t5 t ≡ true
-  unfolding inOrder
-  entries-hold e = search (and-l, and-r) depth 8
+  -- T5 with the entries' being live or not
+  entries-hold : whole ≡ true → (livesOk image && t5 t) ≡ true
+  unfolding inOrder isImage
+  entries-hold e =
+      let l : livesOk image ≡ true = search (and-l, and-r) depth 8 in
+      let a : t5 t ≡ true = search (and-l, and-r) depth 8 in
+      and-intro l a
 
-  pub programs-broken : (t1 t && t2 t && t4 t) ≡ false → false ≡ inOrder t
-  programs-broken e = sym (cannot-pass (inOrder t) (λ o. contradiction (programs-hold o) e))
+  pub programs-broken : programs ≡ false → false ≡ whole
+  programs-broken e = sym (cannot-pass whole (λ o. contradiction (programs-hold o) e))
 
-  pub chains-broken : t3 t ≡ false → false ≡ inOrder t
-  chains-broken e = sym (cannot-pass (inOrder t) (λ o. contradiction (chains-hold o) e))
+  pub chains-broken : t3 t ≡ false → false ≡ whole
+  chains-broken e = sym (cannot-pass whole (λ o. contradiction (chains-hold o) e))
 
-  pub entries-broken : t5 t ≡ false → false ≡ inOrder t
-  entries-broken e = sym (cannot-pass (inOrder t) (λ o. contradiction (entries-hold o) e))
+  pub entries-broken : (livesOk image && t5 t) ≡ false → false ≡ whole
+  entries-broken e = sym (cannot-pass whole (λ o. contradiction (entries-hold o) e))
 
-  module _ (programs : (t1 t && t2 t && t4 t) ≡ true) where
+  module _ (hold : programs ≡ true) where
+    rules : (t1 t && t2 t && t4 t) ≡ true
+    rules = and-r (kindsOk image) (t1 t && t2 t && t4 t) hold
+
     pub rule-1 : t1 t ≡ true
-    rule-1 = and-l (t1 t) (t2 t) (and-l (t1 t && t2 t) (t4 t) programs)
+    rule-1 = and-l (t1 t) (t2 t) (and-l (t1 t && t2 t) (t4 t) rules)
 
     pub rule-2 : t2 t ≡ true
-    rule-2 = and-r (t1 t) (t2 t) (and-l (t1 t && t2 t) (t4 t) programs)
+    rule-2 = and-r (t1 t) (t2 t) (and-l (t1 t && t2 t) (t4 t) rules)
 
     rule-4 : t4 t ≡ true
-    rule-4 = and-r (t1 t && t2 t) (t4 t) programs
+    rule-4 = and-r (t1 t && t2 t) (t4 t) rules
 
-    pub last-rule : t3 t ≡ true → t5 t ≡ true → t6 t ≡ inOrder t
-    unfolding inOrder
-    last-rule c e = rw (rule-1, rule-2, c, rule-4, e)
+    pub last-rule : t3 t ≡ true → (livesOk image && t5 t) ≡ true → t6 t ≡ whole
+    unfolding inOrder isImage
+    last-rule c e =
+        rw (
+          eq-eqb (length image) 11328 long,
+          and-l (kindsOk image) (t1 t && t2 t && t4 t) hold,
+          and-l (livesOk image) (t5 t) e,
+          rule-1,
+          rule-2,
+          c,
+          rule-4,
+          and-r (livesOk image) (t5 t) e,
+        )

@@ -1,9 +1,10 @@
 // Tables in order: T1 to T6, and the test beside them. The tables are read from their image where it lies: nothing is copied.
 ghost use Prim.Native.Nat.{_<_};
 ghost use mathlib.Core.Path.{_≡_};
+ghost use mathlib.Core.Bool.{_&&_};
 ghost use lib.ListN.{length};
 ghost use Rattle.tables.specs.Order.{inOrder, noFarChild};
-ghost use Rattle.image.specs.Image.{decode};
+ghost use Rattle.image.specs.Image.{decode, isImage};
 ghost use Rattle.order.specs.Far.{isFar};
 use tables::Tables;
 use tables::Ticket;
@@ -11,20 +12,27 @@ use tables::Ticket;
 // Bytes of the tables' image.
 const TABLES: usize = 11328;
 
-// T1, T2 and T4 first: they need nothing but the programs, one by one. T1 makes the numbers an index of the tickets for T3, T5 and T6,
-// and T5 notes for T6 where the entries are. T3, T5 and T6 look only at the places that are listed for them.
+// Is it an image, and are its tables in order? T1, T2 and T4 first: they need nothing but the programs, one by one. T1 makes the numbers an
+// index of the tickets for T3, T5 and T6, and T5 notes for T6 where the entries are. T3, T5 and T6 look only at the places that are listed
+// for them.
 pub fn image_in_order(image: &[u8]) -> bool
     requires { ⌜ length (now image) ≡ 11328 ⌝ }
-    ensures { λ r. ⌜ r ≡ inOrder (decode (now (image .entry))) ⌝ }
+    ensures { λ r. ⌜ r ≡ (isImage (now (image .entry)) && inOrder (decode (now (image .entry)))) ⌝ }
 {
     let mut numbers = [0u16; 256];
-    if !program_order::programs_ok(image, &mut numbers) {
-        return false;
-    }
     let mut taken = [0u16; 256];
     let mut children = [0u16; 256];
     let mut recalls = [0u16; 256];
-    let n = listing::list_tickets(image, &mut taken, &mut children, &mut recalls);
+    let n = program_order::programs_ok(
+        image,
+        &mut numbers,
+        &mut taken,
+        &mut children,
+        &mut recalls,
+    );
+    if !n.ok {
+        return false;
+    }
     let a = n.taken;
     let b = n.children;
     let c = n.recalls;

@@ -1,2 +1,3 @@
 mod Numbers
 mod Programs
+mod Passing

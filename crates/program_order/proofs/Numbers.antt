@@ -1,17 +1,17 @@
 -- The numbers written down place by place: after i places each live ticket has passed, no two of a program have one number, and what is
--- written is each one's number, 0 where there is none. So a number that its program's eight places do not have yet is new.
+-- written is each one's number, 0 where there is none. So a number that no place before it in its program has is new.
 use Prim.Native.Nat.{ℕ, _+_, _-_, _*_, _/_, _≤_, _<_}
 use native.Mathlib.Omega.{arith}
-use mathlib.Core.Path.{_≡_, refl, sym, ap, subst, _∙_}
-use mathlib.Core.Bool.{Bool, true, false, _&&_, cond}
+use mathlib.Core.Path.{_≡_, sym, ap, subst, _∙_}
+use mathlib.Core.Bool.{Bool, true, false}
 use mathlib.Core.List.{List, map}
-use lib.Dec.{eqb, ltb, leb}
-use lib.ListN.{length, getD, set, take, drop, replicate, length-set, length-map, length-drop, length-replicate, List·getD-map}
+use lib.Dec.{eqb}
+use lib.ListN.{length, getD, set, drop, replicate, length-set, length-map, length-drop, length-replicate, List·getD-map}
 use lib.Seq.{getD-set-same, getD-set-other, getD-take, getD-drop, length-take-le, ext-getD}
-use borrow.Author.Tests.{eqb-true, eqb-false, eq-eqb, ltb-true, ltb-false, leb-true, leb-false}
-use Rattle.lists.specs.Tests.{implies, between}
+use borrow.Author.Tests.{eqb-true, eqb-false, eq-eqb, leb-true, leb-false}
+use Rattle.lists.specs.Tests.{between}
 use Rattle.lists.specs.Lists.{firstIndex}
-use Rattle.lists.proofs.Tests.{Case, pass, fail, case, contradiction, cannot-pass, and-l, and-r, implies-intro, between-low}
+use Rattle.lists.proofs.Tests.{Case, pass, fail, case, contradiction, cannot-pass, cannot-fail, implies-intro}
 use Rattle.lists.proofs.Search.{first-bound, find-passes}
 use Rattle.lists.proofs.Reading.{same-all}
 use Rattle.lists.proofs.Loops.{so-far}
@@ -20,7 +20,7 @@ use Rattle.tables.specs.Kinds.{isLive, isGrant}
 use Rattle.tables.specs.Names.{free}
 use Rattle.tables.proofs.KindLaws.{live-grant}
 use Rattle.index.specs.Places.{nameAt, numberOf}
-use Rattle.program_order.specs.Parts.{isNew, grantOk}
+use Rattle.program_order.specs.Parts.{isNew, grantOk, before}
 
 -- ---- a number among others
 module _ (m : ℕ) (l : List ℕ) where
@@ -29,6 +29,10 @@ module _ (m : ℕ) (l : List ℕ) where
   new-none e j h q =
       let b = first-bound (λ x. eqb x m) l 0 j h (eq-eqb (getD l j 0) m q) in
       omega (arith, b, leb-true (length l) (firstIndex (λ x. eqb x m) l) e)
+
+  -- as the code finds it
+  pub found-old : (j : ℕ) → j < length l → getD l j 0 ≡ m → false ≡ isNew m l
+  found-old j h q = sym (cannot-pass (isNew m l) (λ e. new-none e j h q))
 
   -- where it stands
   record Stands : Type 0 where
@@ -41,6 +45,9 @@ module _ (m : ℕ) (l : List ℕ) where
   old-somewhere e =
       let b : firstIndex (λ x. eqb x m) l < length l = omega (arith, leb-false (length l) (firstIndex (λ x. eqb x m) l) e) in
       record { at = firstIndex (λ x. eqb x m) l; low = b; here = eqb-true _ m (find-passes (λ x. eqb x m) l 0 b) }
+
+  pub none-old : ((j : ℕ) → j < length l → getD l j 0 ≡ m → ⊥) → true ≡ isNew m l
+  none-old h = sym (cannot-fail (isNew m l) (λ e. let s = old-somewhere e in h (s .at) (s .low) (s .here)))
 
 -- a ticket's number, where it is not 0
 number-live : (k : Ticket) → (numberOf k ≡ 0 → ⊥) → isLive (k .kind) ≡ true
@@ -123,46 +130,35 @@ module _ (tickets : List Ticket) (lasts : List ℕ) where
         more p q g h r l m (pass z) = contradiction (subst (λ (x : ℕ). live x ≡ true) (eqb-true q i z) m) e
         more p q g h r l m (fail z) = so .apart p q g (omega (arith, h, eqb-false q i z)) r l m
 
-    -- ---- its program's eight numbers
-    abbrev pub eight : List ℕ
-    eight = take 8 (drop (8 * (i / 8)) numbers)
+    -- ---- the numbers before it in its program
+    before-long : length (before i numbers) ≡ i - 8 * (i / 8)
+    before-long = length-take-le (i - 8 * (i / 8)) (drop (8 * (i / 8)) numbers) (omega (arith, length-drop (8 * (i / 8)) numbers, so .long, low))
 
-    eight-long : length eight ≡ 8
-    eight-long = length-take-le 8 (drop (8 * (i / 8)) numbers) (omega (arith, length-drop (8 * (i / 8)) numbers, so .long, low))
-
-    eight-at : (j : ℕ) → j < 8 → getD eight j 0 ≡ getD numbers (8 * (i / 8) + j) 0
-    eight-at j h = getD-take 8 (drop (8 * (i / 8)) numbers) j 0 h ∙ getD-drop (8 * (i / 8)) numbers j 0
-
-    -- what the code asks of the number: it knows the eight as a part, and the ticket and its program's last number by themselves
-    pub number-asked : (k : Ticket) → k ≡ ticket i → (last : ℕ) → last ≡ getD lasts (i / 8) 0 → (b : Bool)
-        → b ≡ (between 1 last (k .number) && isNew (k .number) (take (8 * (i / 8) + 8 - 8 * (i / 8)) (drop (8 * (i / 8)) numbers)))
-        → b ≡ (between 1 (getD lasts (i / 8) 0) (ticket i .number) && isNew (ticket i .number) eight)
-    number-asked k e last f b r =
-        let w : 8 * (i / 8) + 8 - 8 * (i / 8) ≡ 8 = omega arith in
-        r ∙ (λ j. between 1 (f j) (e j .number) && isNew (e j .number) (take (w j) (drop (8 * (i / 8)) numbers)))
+    before-at : (j : ℕ) → j < i - 8 * (i / 8) → getD (before i numbers) j 0 ≡ getD numbers (8 * (i / 8) + j) 0
+    before-at j h = getD-take (i - 8 * (i / 8)) (drop (8 * (i / 8)) numbers) j 0 h ∙ getD-drop (8 * (i / 8)) numbers j 0
 
     module _ (l : live i ≡ true) where
       -- ---- a ticket whose number is new
-      module _ (new : isNew (ticket i .number) eight ≡ true) where
+      module _ (new : isNew (ticket i .number) (before i numbers) ≡ true) where
         unlike : (p : ℕ) → p < i → p / 8 ≡ i / 8 → live p ≡ true → ticket p .number ≡ ticket i .number → ⊥
         unlike p h r m e =
             let j : ℕ = p - 8 * (i / 8) in
             let s : 8 * (i / 8) + j ≡ p = omega (arith, r) in
-            let b : j < 8 = omega (arith, r) in
-            new-none (ticket i .number) eight new j (omega (arith, b, eight-long))
-            (eight-at j b ∙ ap (λ (x : ℕ). getD numbers x 0) s ∙ so .written p h ∙ live-number (ticket p) m ∙ e)
+            let b : j < i - 8 * (i / 8) = omega (arith, r, h) in
+            new-none (ticket i .number) (before i numbers) new j (omega (arith, b, before-long))
+            (before-at j b ∙ ap (λ (x : ℕ). getD numbers x 0) s ∙ so .written p h ∙ live-number (ticket p) m ∙ e)
 
         pub live-turn : PlaceOk i → (x : ℕ) → x ≡ ticket i .number → SoFar (i + 1) (set numbers i x)
         live-turn ok x e = record {
           long = length-set numbers i x ∙ so .long;
           ok = so-far i (so .ok) ok;
           apart = λ p q g h r a b. more p q g h r a b (case (eqb q i));
-          written = so-far i before (getD-set-same numbers i x 0 (omega (arith, so .long, low)) ∙ e ∙ sym (live-number (ticket i) l));
+          written = so-far i kept (getD-set-same numbers i x 0 (omega (arith, so .long, low)) ∙ e ∙ sym (live-number (ticket i) l));
           rest = λ p h. getD-set-other numbers i p x 0 (λ z. omega (arith, z, h)) ∙ so .rest p (omega (arith, h));
         }
           where
-            before : (p : ℕ) → p < i → getD (set numbers i x) p 0 ≡ numberOf (ticket p)
-            before p h = getD-set-other numbers i p x 0 (λ z. omega (arith, z, h)) ∙ so .written p h
+            kept : (p : ℕ) → p < i → getD (set numbers i x) p 0 ≡ numberOf (ticket p)
+            kept p h = getD-set-other numbers i p x 0 (λ z. omega (arith, z, h)) ∙ so .written p h
 
             more : (p q : ℕ) → p < q → q < i + 1 → p / 8 ≡ q / 8 → live p ≡ true → live q ≡ true → Case (eqb q i) → ticket p .number ≡ ticket q .number → ⊥
             more p q g h r a b (pass z) =
@@ -171,19 +167,14 @@ module _ (tickets : List Ticket) (lasts : List ℕ) where
             more p q g h r a b (fail z) = so .apart p q g (omega (arith, h, eqb-false q i z)) r a b
 
       -- ---- a ticket whose number is not new
-      pub old-number : isNew (ticket i .number) eight ≡ false → 1 ≤ ticket i .number → Apart 256 → ⊥
+      pub old-number : isNew (ticket i .number) (before i numbers) ≡ false → 1 ≤ ticket i .number → Apart 256 → ⊥
       old-number old pos apart =
-          let s = old-somewhere (ticket i .number) eight old in
-          let b : s .at < 8 = omega (arith, s .low, eight-long) in
-          at (8 * (i / 8) + s .at) (omega (arith, b)) (sym (eight-at (s .at) b) ∙ s .here)
+          let s = old-somewhere (ticket i .number) (before i numbers) old in
+          let b : s .at < i - 8 * (i / 8) = omega (arith, s .low, before-long) in
+          at (8 * (i / 8) + s .at) (omega (arith, b)) (omega (arith, b)) (sym (before-at (s .at) b) ∙ s .here)
         where
-          at : (p : ℕ) → p / 8 ≡ i / 8 → getD numbers p 0 ≡ ticket i .number → ⊥
-          at p r e = go (case (ltb p i))
-            where
-              go : Case (ltb p i) → ⊥
-              go (pass z) =
-                  let h : p < i = ltb-true p i z in
-                  let w : numberOf (ticket p) ≡ ticket i .number = sym (so .written p h) ∙ e in
-                  let m : live p ≡ true = number-live (ticket p) (λ y. omega (arith, y, w, pos)) in
-                  apart p i h low r m l (sym (live-number (ticket p) m) ∙ w)
-              go (fail z) = omega (arith, so .rest p (ltb-false p i z), e, pos)
+          at : (p : ℕ) → p < i → p / 8 ≡ i / 8 → getD numbers p 0 ≡ ticket i .number → ⊥
+          at p h r e =
+              let w : numberOf (ticket p) ≡ ticket i .number = sym (so .written p h) ∙ e in
+              let m : live p ≡ true = number-live (ticket p) (λ y. omega (arith, y, w, pos)) in
+              apart p i h low r m l (sym (live-number (ticket p) m) ∙ w)

@@ -2,14 +2,14 @@
 use Prim.Native.Nat.{ℕ, _+_, _*_, _/_, _%_, _<_}
 use native.Mathlib.Omega.{arith}
 use mathlib.Core.Path.{_≡_, sym, ap, subst, _∙_}
-use mathlib.Core.Bool.{Bool, true, false, _&&_}
+use mathlib.Core.Bool.{true, false, _&&_}
 use mathlib.Core.List.{List}
 use lib.Dec.{ltb, eqb}
 use lib.ListN.{length, getD}
 use borrow.Author.Tests.{ltb-true, ltb-false}
 use Rattle.lists.specs.Tests.{implies, between}
 use Rattle.lists.specs.Lists.{all, noTwo}
-use Rattle.lists.proofs.Tests.{Case, pass, fail, case, contradiction, cannot-pass, and-l, and-r, and-intro, implies-intro, implies-elim, between-low}
+use Rattle.lists.proofs.Tests.{Case, pass, fail, case, contradiction, cannot-pass, cannot-fail, and-l, and-r, and-intro, implies-intro, implies-elim, between-low}
 use Rattle.lists.proofs.Everywhere.{all-intro, all-elim}
 use Rattle.lists.proofs.Keyed.{Distinct, distinct-intro, distinct-test}
 use Rattle.tables.specs.declared.{Name.Name, Ticket.Ticket, Tables.Tables}
@@ -23,8 +23,8 @@ use Rattle.tables.proofs.ByPlace.{ticketAt, numbers-at}
 use Rattle.index.specs.Places.{placed, nameAt, Flattened}
 use Rattle.index.proofs.Laws.{every-placed, placed-every}
 use Rattle.index.proofs.Laying.{at-place}
-use Rattle.program_order.specs.Parts.{isNew, grantOk}
-use Rattle.program_order.proofs.Numbers.{ticket, live, PlaceOk, Apart, SoFar, eight, old-number}
+use Rattle.program_order.specs.Parts.{isNew, grantOk, before, ticketOk}
+use Rattle.program_order.proofs.Numbers.{ticket, live, PlaceOk, Apart, SoFar, old-number}
 
 -- of one ticket
 grant-says : (n : Name) (k : Ticket) → grantOk n k ≡ true → isGrant (k .kind) ≡ true → (spanOk k && implies (isHead (k .kind)) (eqName (k .dock) n)) ≡ true
@@ -183,22 +183,14 @@ module _ (t : Tables) (z : Sized t) (tickets : List Ticket) (lasts : List ℕ) (
 
   -- ---- a place that fails
   module _ (i : ℕ) (numbers : List ℕ) (so : SoFar tickets lasts i numbers) (low : i < 256) where
-    pub number-fails : live tickets lasts i ≡ true
-        → (between 1 (getD lasts (i / 8) 0) (ticket tickets lasts i .number) && isNew (ticket tickets lasts i .number) (eight tickets lasts i numbers so low)) ≡ false
-        → false ≡ (t1 t && t2 t && t4 t)
-    number-fails l e =
-        sym
-        (cannot-pass (t1 t && t2 t && t4 t)
+    pub ticket-fails : (k : Ticket) → k ≡ ticket tickets lasts i → live tickets lasts i ≡ true → ticketOk lasts numbers i k ≡ false
+        → (t1 t && t2 t && t4 t) ≡ false
+    unfolding ticketOk
+    ticket-fails k e l f =
+        cannot-pass (t1 t && t2 t && t4 t)
         (λ r. let range = place-says r i low .range l in
-        go r range (case (isNew (ticket tickets lasts i .number) (eight tickets lasts i numbers so low)))))
-      where
-        go : (t1 t && t2 t && t4 t) ≡ true → between 1 (getD lasts (i / 8) 0) (ticket tickets lasts i .number) ≡ true
-            → Case (isNew (ticket tickets lasts i .number) (eight tickets lasts i numbers so low)) → ⊥
-        go r range (pass n) = contradiction (and-intro range n) e
-        go r range (fail n) = old-number tickets lasts i numbers so low l n (between-low 1 _ (ticket tickets lasts i .number) range) (apart-says r)
-
-    pub grant-fails : (n : Name) (k : Ticket) → k ≡ ticket tickets lasts i → n ≡ nameAt i k → grantOk n k ≡ false → false ≡ (t1 t && t2 t && t4 t)
-    grant-fails n k e f g =
-        sym
-        (cannot-pass (t1 t && t2 t && t4 t)
-        (λ r. contradiction (place-says r i low .grant) (sym (ap (λ (x : Ticket). grantOk (nameAt i x) x) e) ∙ ap (λ (m : Name). grantOk m k) (sym f) ∙ g)))
+        contradiction
+        (and-intro (and-intro range (cannot-fail (isNew (ticket tickets lasts i .number) (before i numbers))
+        (λ n. old-number tickets lasts i numbers so low l n (between-low 1 _ (ticket tickets lasts i .number) range) (apart-says r))))
+        (place-says r i low .grant))
+        (sym (ap (ticketOk lasts numbers i) e) ∙ f))

@@ -1,2 +1,3 @@
 mod OneRecall
 mod Whole
+mod NoRecalls

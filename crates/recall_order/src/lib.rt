@@ -109,7 +109,8 @@ fn each_holds(
     true
 }
 
-// T6, in tables whose numbers are distinct (T1) and whose entries are noted at their grants' places.
+// T6, in tables whose numbers are distinct (T1) and whose entries are noted at their grants' places. Where there is no recall, there must be
+// no child either.
 pub fn recalls_ok(
     image: &[u8],
     numbers: &[u16],
@@ -120,6 +121,9 @@ pub fn recalls_ok(
     requires { ⌜ (length (now image) ≡ 11328) × ((length (now numbers) ≡ 256) × ((length (now notes) ≡ 256) × (TicketsListed (λ k. isChild (k .kind)) (ticketsIn (now image)) (now children) × TicketsListed (λ k. isRecall (k .kind)) (ticketsIn (now image)) (now recalls)))) ⌝ }
     ensures { λ r. ⌜ ((t : Tables) → LaidOut t (now (image .entry)) (now (numbers .entry)) (now (notes .entry)) → r ≡ t6 t) ⌝ }
 {
+    if recalls.len() == 0 {
+        return children.len() == 0;
+    }
     let mut keys: [usize; 256] = [256; 256];
     recall_marks::write_keys(image, numbers, recalls, &mut keys);
     if !each_holds(image, numbers, notes, recalls, &keys) {

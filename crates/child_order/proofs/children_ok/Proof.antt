@@ -28,13 +28,14 @@ abbrev μ-loop : tie.MeasureT-loop
 μ-loop image numbers children up₀ i₀ up i = length children - i
 
 loop-holds : tie.Need-loop-holds Inv-loop μ-loop
-loop-holds c = (
-  omega arith,
-  (
-    (λ j h. absurd (omega (arith, h))),
-    subst (Filled 256 256 _ _ 0) (sym (c .before .before .before .before .pre .1 .1 .1)) (filled-none 256 256 _ _),
-  ),
-)
+loop-holds c =
+    let c4 = c .before .before .before .before in (
+      omega arith,
+      (
+        (λ j h. absurd (omega (arith, h))),
+        subst (Filled 256 256 _ _ 0) (sym (c4 .pre .1 .1 .1)) (filled-none 256 256 _ _),
+      ),
+    )
 
 mul-wide : tie.Need-mul-wide Inv-loop μ-loop
 mul-wide c = search needs
@@ -49,16 +50,23 @@ add-i : tie.Need-add-i Inv-loop μ-loop
 add-i c = search needs
 
 ticket-at-requires : tie.Need-ticket-at-requires Inv-loop μ-loop
-ticket-at-requires c κs = (
-  c .before .before .before .before .before .before .before .before .pre .0,
-  omega (arith, c .wide .ensures, c .before .before .before .before .before .before .before .before .pre .1 .1 .0 .low (c .before .before .before .loop .i) (omega arith)),
-)
+ticket-at-requires c κs =
+    let c3 = c .before .before .before in
+    let c8 = c3 .before .before .before .before .before in (
+      c8 .pre .0,
+      omega (arith, c .wide .ensures, c8 .pre .1 .1 .0 .low (c3 .loop .i) (omega arith)),
+    )
 
 place-of-requires : tie.Need-place-of-requires Inv-loop μ-loop
-place-of-requires c κs = c .before .before .before .before .before .before .before .before .before .before .pre .1 .0
+place-of-requires c κs =
+    let c10 = c .before .before .before .before .before .before .before .before .before .before in
+    c10 .pre .1 .0
 
 same-length : tie.Need-same-length Inv-loop μ-loop
-same-length c = omega (arith, c .before .before .before .before .before .before .before .loop .inv .1 .1 .long, ap length (c .before .before .before .before .before .before .before .before .before .before .before .before .pre .1 .1 .1), length-replicate {A = ℕ} 256 256)
+same-length c =
+    let c7 = c .before .before .before .before .before .before .before in
+    let c12 = c7 .before .before .before .before .before in
+    omega (arith, c7 .loop .inv .1 .1 .long, ap length (c12 .pre .1 .1 .1), length-replicate {A = ℕ} 256 256)
 
 returns : tie.Need-returns Inv-loop μ-loop
 unfolding childrenOk
@@ -75,19 +83,32 @@ returns c =
     (e, λ z. no-true z)
 
 ticket-at-requires-2 : tie.Need-ticket-at-requires-2 Inv-loop μ-loop
-ticket-at-requires-2 c κs = (c .before .before .before .before .before .before .before .before .before .before .before .before .pre .0, omega (arith, c .if1 .left))
+ticket-at-requires-2 c κs =
+    let c12 = c .before .before .before .before .before .before .before .before .before .before .before .before in
+    (c12 .pre .0, omega (arith, c .if1 .left))
 
 cast-t15 : tie.Need-cast-t15 Inv-loop μ-loop
-cast-t15 c = omega (arith, c .before .before .before .before .before .wide .ensures, c .before .before .before .before .before .before .before .before .before .before .before .before .before .pre .1 .1 .0 .low (c .before .before .before .before .before .before .before .before .loop .i) (omega arith))
+cast-t15 c =
+    let c5 = c .before .before .before .before .before in
+    let c8 = c5 .before .before .before in
+    let c13 = c8 .before .before .before .before .before in
+    omega (arith, c5 .wide .ensures, c13 .pre .1 .1 .0 .low (c8 .loop .i) (omega arith))
 
 cast-up : tie.Need-cast-up Inv-loop μ-loop
-cast-up c = omega (arith, c .before .before .before .before .before .wide .ensures, c .before .before .before .before .before .before .before .before .before .before .before .before .before .pre .1 .1 .0 .low (c .before .before .before .before .before .before .before .before .loop .i) (omega arith))
+cast-up c =
+    let c5 = c .before .before .before .before .before in
+    let c8 = c5 .before .before .before in
+    let c13 = c8 .before .before .before .before .before in
+    omega (arith, c5 .wide .ensures, c13 .pre .1 .1 .0 .low (c8 .loop .i) (omega arith))
 
 parent-ok-requires : tie.Need-parent-ok-requires Inv-loop μ-loop
 parent-ok-requires c κs = search needs
 
 same-length-2 : tie.Need-same-length-2 Inv-loop μ-loop
-same-length-2 c = omega (arith, c .before .before .before .before .before .before .before .before .before .before .loop .inv .1 .1 .long, ap length (c .before .before .before .before .before .before .before .before .before .before .before .before .before .before .before .pre .1 .1 .1), length-replicate {A = ℕ} 256 256)
+same-length-2 c =
+    let c10 = c .before .before .before .before .before .before .before .before .before .before in
+    let c15 = c10 .before .before .before .before .before in
+    omega (arith, c10 .loop .inv .1 .1 .long, ap length (c15 .pre .1 .1 .1), length-replicate {A = ℕ} 256 256)
 
 returns-2 : tie.Need-returns-2 Inv-loop μ-loop
 unfolding childrenOk
@@ -108,10 +129,18 @@ cast-up-2 : tie.Need-cast-up-2 Inv-loop μ-loop
 cast-up-2 c = search needs
 
 mul-up : tie.Need-mul-up Inv-loop μ-loop
-mul-up c = omega (arith, c .before .before .before .before .before .before .before .wide .ensures, c .before .before .before .before .before .before .before .before .before .before .before .before .before .before .before .pre .1 .1 .0 .low (c .before .before .before .before .before .before .before .before .before .before .loop .i) (omega arith))
+mul-up c =
+    let c7 = c .before .before .before .before .before .before .before in
+    let c10 = c7 .before .before .before in
+    let c15 = c10 .before .before .before .before .before in
+    omega (arith, c7 .wide .ensures, c15 .pre .1 .1 .0 .low (c10 .loop .i) (omega arith))
 
 slice-write-up : tie.Need-slice-write-up Inv-loop μ-loop
-slice-write-up c = omega (arith, c .before .before .before .before .before .before .before .before .before .before .loop .inv .1 .1 .long, c .before .before .before .before .before .before .before .wide .ensures, c .before .before .before .before .before .before .before .before .before .before .before .before .before .before .before .pre .1 .1 .0 .low (c .before .before .before .before .before .before .before .before .before .before .loop .i) (omega arith))
+slice-write-up c =
+    let c7 = c .before .before .before .before .before .before .before in
+    let c10 = c7 .before .before .before in
+    let c15 = c10 .before .before .before .before .before in
+    omega (arith, c10 .loop .inv .1 .1 .long, c7 .wide .ensures, c15 .pre .1 .1 .0 .low (c10 .loop .i) (omega arith))
 
 loop-less : tie.Need-loop-less Inv-loop μ-loop
 loop-less c = search needs
@@ -138,12 +167,15 @@ loop-again c =
     )
 
 same-length-3 : tie.Need-same-length-3 Inv-loop μ-loop
-same-length-3 c = omega (arith, c .before .loop .inv .1 .1 .long, ap length (c .before .before .before .before .before .before .pre .1 .1 .1), length-replicate {A = ℕ} 256 256)
+same-length-3 c =
+    let c6 = c .before .before .before .before .before .before in
+    omega (arith, c .before .loop .inv .1 .1 .long, ap length (c6 .pre .1 .1 .1), length-replicate {A = ℕ} 256 256)
 
 returns-3 : tie.Need-returns-3 Inv-loop μ-loop
 unfolding childrenOk
 returns-3 c =
-    let s = c .before .before .before .before .before .before in
+    let c6 = c .before .before .before .before .before .before in
+    let s = c6 in
     let ks = ticketsIn (s .args .image .now) in
     let listing = s .pre .1 .1 .0 in (
       sym

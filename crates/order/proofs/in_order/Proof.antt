@@ -1,9 +1,7 @@
-use mathlib.Core.Path.{ap, _∙_}
+use mathlib.Core.Path.{_∙_}
 use borrow.Author.Needs.{needs}
-use Rattle.tables.specs.Order.{inOrder}
 use Rattle.tables.proofs.Fits.{tables-fit, tables-sized}
-use Rattle.image.specs.Image.{decode}
-use Rattle.image.proofs.RoundTrip.{decode-encode}
+use Rattle.order.proofs.Written.{written-order}
 use Rattle.order.proofs.in_order.Statement.{statement}
 use Rattle.order.proofs.in_order.Tie as tie
 
@@ -23,7 +21,8 @@ returns : tie.Need-returns
 returns c =
     let c3 = c .before .before .before in
     let c5 = c3 .before .before in
-    c .image-in-order .ensures ∙ ap inOrder (ap decode (c3 .tables .ensures) ∙ decode-encode (c5 .args .t) (tables-sized (c5 .args .t) (tables-fit (c5 .args .t) (_, c5 .good .0))))
+    let t = c5 .args .t in
+    c .image-in-order .ensures ∙ written-order t _ (c3 .tables .ensures) (tables-sized t (tables-fit t (_, c5 .good .0)))
 
 pub in-order-spec : {M : Type 1} → statement M
 in-order-spec =

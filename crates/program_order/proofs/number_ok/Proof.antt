@@ -1,9 +1,6 @@
-use mathlib.Core.Path.{sym, ap, _∙_}
-use lib.Dec.{leb}
-use lib.ListN.{length}
+use mathlib.Core.Path.{sym, _∙_}
 use borrow.Author.Needs.{needs}
 use borrow.Author.Tests.{not-true, not-false}
-use Rattle.program_order.specs.Parts.{isNew}
 use Rattle.program_order.proofs.number_ok.Statement.{statement}
 use Rattle.program_order.proofs.number_ok.Tie as tie
 
@@ -11,19 +8,13 @@ is-between-requires : tie.Need-is-between-requires
 is-between-requires c κs = search needs
 
 returns : tie.Need-returns
-unfolding isNew
-returns c =
-    let s = c .before .before .before .args in
-    rw (sym (c .before .is-between .ensures) ∙ not-true _ (c .if1 .taken))
+returns c = rw (sym (c .before .is-between .ensures) ∙ not-true _ (c .if1 .taken))
 
-index-of-requires : tie.Need-index-of-requires
-index-of-requires c κs = search needs
+is-new-requires : tie.Need-is-new-requires
+is-new-requires c κs = search needs
 
 returns-2 : tie.Need-returns-2
-unfolding isNew
-returns-2 c =
-    let s = c .before .before .before .before .args in
-    rw (sym (c .before .before .is-between .ensures) ∙ not-false _ (c .before .if1 .left)) (ap (leb (length (s .numbers .now))) (c .index-of .ensures))
+returns-2 c = rw (sym (c .before .before .is-between .ensures) ∙ not-false _ (c .before .if1 .left)) (c .is-new .ensures)
 
 pub number-ok-spec : {M : Type 1} → statement M
-number-ok-spec = tie.close (tie.spec is-between-requires returns index-of-requires returns-2)
+number-ok-spec = tie.close (tie.spec is-between-requires returns is-new-requires returns-2)

@@ -1,160 +1,268 @@
--- After i turns the first i places have passed, and their numbers are written.
+-- After i turns the first i places have passed: `Passed` says what is known then.
 use Prim.Native.Nat.{ℕ, _-_, _≤_}
 use native.Mathlib.Omega.{arith}
-use mathlib.Core.Path.{refl, sym, ap, _∙_}
+use mathlib.Core.Path.{_≡_, sym, ap, _∙_}
+use mathlib.Core.Bool.{Bool, _&&_}
 use lib.ListN.{length, length-replicate}
 use borrow.Author.Needs.{needs}
 use borrow.Author.Tests.{not-true, not-false}
-use Rattle.lists.specs.Tests.{between}
-use Rattle.lists.proofs.Tests.{no-true, and-l, and-r}
-use Rattle.tables.specs.declared.Ticket.{Ticket}
-use Rattle.tables.specs.Kinds.{isLive}
-use Rattle.index.specs.Places.{nameAt}
-use Rattle.decode.specs.Places.{ticketsIn, lastsIn}
-use Rattle.decode.proofs.Places.{tickets-long}
-use Rattle.program_order.specs.Parts.{grantOk}
-use Rattle.program_order.proofs.Numbers.{PlaceOk, SoFar, none-yet, all-written, dead-turn, number-asked, live-turn}
-use Rattle.program_order.proofs.Programs.{rules-pass, number-fails, grant-fails}
+use Rattle.lists.proofs.Tests.{contradiction, and-false}
+use Rattle.tables.specs.Order.{t1, t2, t4}
+use Rattle.image.specs.Image.{kindsOk}
+use Rattle.program_order.proofs.Passing.{Passed, passed-none, bad-kind, passed-free, bad-ticket, passed-live, all-pass, all-indexed}
 use Rattle.program_order.proofs.programs_ok.Statement.{statement}
 use Rattle.program_order.proofs.programs_ok.Tie as tie
 
 abbrev Inv-loop : tie.InvT-loop
-Inv-loop image numbers₀ i₀ numbers i = (i ≤ 256) × SoFar (ticketsIn image) (lastsIn image) i numbers
+Inv-loop image numbers₀ taken₀ children₀ recalls₀ a₀ b₀ c₀ i₀ numbers taken children recalls a b c i =
+    (i ≤ 256) × Passed image i numbers taken children recalls a b c
 
 abbrev μ-loop : tie.MeasureT-loop
-μ-loop image numbers₀ i₀ numbers i = 256 - i
+μ-loop image numbers₀ taken₀ children₀ recalls₀ a₀ b₀ c₀ i₀ numbers taken children recalls a b c i = 256 - i
+
+blank : (s : tie.Start Inv-loop μ-loop) → length (s .args .numbers .now) ≡ 256
+blank s = ap length (s .pre .1 .0) ∙ length-replicate {A = ℕ} 256 0
 
 loop-holds : tie.Need-loop-holds Inv-loop μ-loop
-loop-holds c = (omega arith, none-yet _ _ _ (c .before .before .pre .1))
+loop-holds c =
+    let c5 = c .before .before .before .before .before in
+    (omega arith, passed-none _ _ _ _ _ (c5 .pre .1 .0) (c5 .pre .1 .1))
 
-ticket-at-requires : tie.Need-ticket-at-requires Inv-loop μ-loop
-ticket-at-requires c κs = search needs
+kind-at-requires : tie.Need-kind-at-requires Inv-loop μ-loop
+kind-at-requires c κs = search needs
 
 add-i : tie.Need-add-i Inv-loop μ-loop
 add-i c = search needs
 
-is-live-requires : tie.Need-is-live-requires Inv-loop μ-loop
-is-live-requires c κs = search needs
-
-mul-from : tie.Need-mul-from Inv-loop μ-loop
-mul-from c = search needs
-
-add-to : tie.Need-add-to Inv-loop μ-loop
-add-to c = search needs
-
-last-at-requires : tie.Need-last-at-requires Inv-loop μ-loop
-last-at-requires c κs = search needs
-
-mul-number-ok : tie.Need-mul-number-ok Inv-loop μ-loop
-mul-number-ok c = search needs
-
-sub-number-ok : tie.Need-sub-number-ok Inv-loop μ-loop
-sub-number-ok c = search needs
-
-part-number-ok-start : tie.Need-part-number-ok-start Inv-loop μ-loop
-part-number-ok-start c = search needs
-
-part-number-ok-end : tie.Need-part-number-ok-end Inv-loop μ-loop
-part-number-ok-end c = search needs
-
-number-ok-requires : tie.Need-number-ok-requires Inv-loop μ-loop
-number-ok-requires c κs = search needs
+refused-requires : tie.Need-refused-requires Inv-loop μ-loop
+refused-requires c κs = search needs
 
 same-length : tie.Need-same-length Inv-loop μ-loop
-same-length c = omega (arith, c .before .before .before .before .before .before .before .before .before .loop .inv .1 .long, ap length (c .before .before .before .before .before .before .before .before .before .before .before .before .pre .1), length-replicate {A = ℕ} 256 0)
+same-length c =
+    let c4 = c .before .before .before .before in
+    let c10 = c4 .before .before .before .before .before .before in
+    c4 .loop .inv .1 .so .long ∙ sym (blank c10)
+
+same-length-2 : tie.Need-same-length-2 Inv-loop μ-loop
+same-length-2 c =
+    let c4 = c .before .before .before .before in
+    let c10 = c4 .before .before .before .before .before .before in
+    c4 .loop .inv .1 .long .0 ∙ sym (c10 .pre .1 .1 .0)
+
+same-length-3 : tie.Need-same-length-3 Inv-loop μ-loop
+same-length-3 c =
+    let c4 = c .before .before .before .before in
+    let c10 = c4 .before .before .before .before .before .before in
+    c4 .loop .inv .1 .long .1 .0 ∙ sym (c10 .pre .1 .1 .1 .0)
+
+same-length-4 : tie.Need-same-length-4 Inv-loop μ-loop
+same-length-4 c =
+    let c4 = c .before .before .before .before in
+    let c10 = c4 .before .before .before .before .before .before in
+    c4 .loop .inv .1 .long .1 .1 ∙ sym (c10 .pre .1 .1 .1 .1)
 
 returns : tie.Need-returns Inv-loop μ-loop
 returns c =
-    let c1 = c .before in
-    let c6 = c1 .before .before .before .before .before in
-    let c9 = c6 .before .before .before in
-    let s = c9 .before .before .before .args in
-    let ks = ticketsIn (s .image .now) in
-    let ls = lastsIn (s .image .now) in
-    let so = c9 .loop .inv .1 in
-    let here = c6 .before .ticket-at .ensures in
-    let l = ap (λ (k : Ticket). isLive (k .kind)) (sym here) ∙ sym (c6 .is-live .ensures) ∙ c .before .before .before .before .before .if1 .taken in
-    let asked = number-asked ks ls (c9 .loop .i) _ so (omega arith) _ here _ (c .before .before .before .before .last-at .ensures) _ (c1 .number-ok .ensures) in (
-      λ t z flat. number-fails t z ks ls flat (c9 .loop .i) _ so (omega arith) l (sym asked ∙ not-true _ (c .if2 .taken)),
-      λ e. no-true e,
-    )
+    let c3 = c .before .before .before in
+    let c4 = c3 .before in
+    let bad = bad-kind _ _ _ _ _ _ _ _ _ (c4 .loop .inv .1) (c3 .loop-test .taken) _ (c .before .before .kind-at .ensures) (c .before .if1 .taken) in
+    (λ t z flat. c .refused .ensures ∙ sym (ap (λ (b : Bool). b && (t1 t && t2 t && t4 t)) bad), λ e. contradiction e (c .refused .ensures))
 
-cast-t21 : tie.Need-cast-t21 Inv-loop μ-loop
-cast-t21 c = search needs
+ticket-at-requires : tie.Need-ticket-at-requires Inv-loop μ-loop
+ticket-at-requires c κs = search needs
 
-cast-t23 : tie.Need-cast-t23 Inv-loop μ-loop
-cast-t23 c = search needs
+ticket-ok-requires : tie.Need-ticket-ok-requires Inv-loop μ-loop
+ticket-ok-requires c κs =
+    let c5 = c .before .before .before .before .before in
+    let c6 = c5 .before in
+    let c12 = c6 .before .before .before .before .before .before in
+    (c12 .pre .0, (c6 .loop .inv .1 .so .long, c5 .loop-test .taken))
 
-grant-ok-requires : tie.Need-grant-ok-requires Inv-loop μ-loop
-grant-ok-requires c κs = search needs
+refused-requires-2 : tie.Need-refused-requires-2 Inv-loop μ-loop
+refused-requires-2 c κs = search needs
 
-same-length-2 : tie.Need-same-length-2 Inv-loop μ-loop
-same-length-2 c = omega (arith, c .before .before .before .before .before .before .before .before .before .before .before .loop .inv .1 .long, ap length (c .before .before .before .before .before .before .before .before .before .before .before .before .before .before .pre .1), length-replicate {A = ℕ} 256 0)
+same-length-5 : tie.Need-same-length-5 Inv-loop μ-loop
+same-length-5 c =
+    let c9 = c .before .before .before .before .before .before .before .before .before in
+    let c15 = c9 .before .before .before .before .before .before in
+    c9 .loop .inv .1 .so .long ∙ sym (blank c15)
+
+same-length-6 : tie.Need-same-length-6 Inv-loop μ-loop
+same-length-6 c =
+    let c9 = c .before .before .before .before .before .before .before .before .before in
+    let c15 = c9 .before .before .before .before .before .before in
+    c9 .loop .inv .1 .long .0 ∙ sym (c15 .pre .1 .1 .0)
+
+same-length-7 : tie.Need-same-length-7 Inv-loop μ-loop
+same-length-7 c =
+    let c9 = c .before .before .before .before .before .before .before .before .before in
+    let c15 = c9 .before .before .before .before .before .before in
+    c9 .loop .inv .1 .long .1 .0 ∙ sym (c15 .pre .1 .1 .1 .0)
+
+same-length-8 : tie.Need-same-length-8 Inv-loop μ-loop
+same-length-8 c =
+    let c9 = c .before .before .before .before .before .before .before .before .before in
+    let c15 = c9 .before .before .before .before .before .before in
+    c9 .loop .inv .1 .long .1 .1 ∙ sym (c15 .pre .1 .1 .1 .1)
 
 returns-2 : tie.Need-returns-2 Inv-loop μ-loop
 returns-2 c =
-    let c11 = c .before .before .before .before .before .before .before .before .before .before .before in
-    let s = c11 .before .before .before .args in
-    let so = c11 .loop .inv .1 in
-    let here = c .before .before .before .before .before .before .before .before .before .ticket-at .ensures in (
-      λ t z flat. grant-fails t z _ _ flat (c11 .loop .i) _ so (omega arith) _ _ here refl (sym (c .before .grant-ok .ensures) ∙ not-true _ (c .if3 .taken)),
-      λ e. no-true e,
-    )
+    let c4 = c .before .before .before .before in
+    let c5 = c4 .before in
+    let c6 = c5 .before in
+    let c7 = c6 .before in
+    let c8 = c7 .before in
+    let c9 = c8 .before in
+    let c15 = c9 .before .before .before .before .before .before in
+    let image = c15 .args .image .now in
+    let bad = bad-ticket image _ _ _ _ _ _ _ _ (c9 .loop .inv .1) (c8 .loop-test .taken) _ (c7 .kind-at .ensures) (omega (arith, c6 .if1 .left))
+    (c5 .if2 .taken) _ (c4 .ticket-at .ensures) (sym (c .before .before .ticket-ok .ensures) ∙ not-true _ (c .before .if3 .taken)) in
+    (λ t z flat. c .refused2 .ensures ∙ sym (ap (λ (b : Bool). kindsOk image && b) (bad t z flat) ∙ and-false (kindsOk image)), λ e. contradiction e (c .refused2 .ensures))
 
 mul-numbers : tie.Need-mul-numbers Inv-loop μ-loop
 mul-numbers c = search needs
 
 slice-write-numbers : tie.Need-slice-write-numbers Inv-loop μ-loop
-slice-write-numbers c = search needs
+slice-write-numbers c =
+    let c7 = c .before .before .before .before .before .before .before in
+    let c8 = c7 .before in
+    omega (arith, c8 .loop .inv .1 .so .long, c7 .loop-test .taken)
+
+cast-place : tie.Need-cast-place Inv-loop μ-loop
+cast-place c = search needs
+
+mul-taken : tie.Need-mul-taken Inv-loop μ-loop
+mul-taken c =
+    let c8 = c .before .before .before .before .before .before .before .before in
+    omega (arith, c8 .loop .inv .1 .grants .most, c8 .loop .inv .0)
+
+slice-write-taken : tie.Need-slice-write-taken Inv-loop μ-loop
+slice-write-taken c =
+    let c7 = c .before .before .before .before .before .before .before in
+    let c8 = c7 .before in
+    omega (arith, c8 .loop .inv .1 .grants .most, c8 .loop .inv .1 .long .0, c7 .loop-test .taken)
+
+mul-children : tie.Need-mul-children Inv-loop μ-loop
+mul-children c =
+    let c8 = c .before .before .before .before .before .before .before .before in
+    omega (arith, c8 .loop .inv .1 .under .most, c8 .loop .inv .0)
+
+slice-write-children : tie.Need-slice-write-children Inv-loop μ-loop
+slice-write-children c =
+    let c7 = c .before .before .before .before .before .before .before in
+    let c8 = c7 .before in
+    omega (arith, c8 .loop .inv .1 .under .most, c8 .loop .inv .1 .long .1 .0, c7 .loop-test .taken)
+
+mul-recalls : tie.Need-mul-recalls Inv-loop μ-loop
+mul-recalls c =
+    let c8 = c .before .before .before .before .before .before .before .before in
+    omega (arith, c8 .loop .inv .1 .back .most, c8 .loop .inv .0)
+
+slice-write-recalls : tie.Need-slice-write-recalls Inv-loop μ-loop
+slice-write-recalls c =
+    let c7 = c .before .before .before .before .before .before .before in
+    let c8 = c7 .before in
+    omega (arith, c8 .loop .inv .1 .back .most, c8 .loop .inv .1 .long .1 .1, c7 .loop-test .taken)
+
+is-taken-requires : tie.Need-is-taken-requires Inv-loop μ-loop
+is-taken-requires c κs = search needs
+
+one-if-requires : tie.Need-one-if-requires Inv-loop μ-loop
+one-if-requires c κs = search needs
+
+add-a : tie.Need-add-a Inv-loop μ-loop
+add-a c =
+    let c9 = c .before .before .before .before .before .before .before .before .before in
+    let c10 = c9 .before in
+    omega (arith, c10 .loop .inv .1 .grants .most, c9 .loop-test .taken, c .one-if .ensures .1)
+
+is-child-requires : tie.Need-is-child-requires Inv-loop μ-loop
+is-child-requires c κs = search needs
+
+one-if-requires-2 : tie.Need-one-if-requires-2 Inv-loop μ-loop
+one-if-requires-2 c κs = search needs
+
+add-b : tie.Need-add-b Inv-loop μ-loop
+add-b c =
+    let c11 = c .before .before .before .before .before .before .before .before .before .before .before in
+    let c12 = c11 .before in
+    omega (arith, c12 .loop .inv .1 .under .most, c11 .loop-test .taken, c .one-if2 .ensures .1)
+
+is-recall-requires : tie.Need-is-recall-requires Inv-loop μ-loop
+is-recall-requires c κs = search needs
+
+one-if-requires-3 : tie.Need-one-if-requires-3 Inv-loop μ-loop
+one-if-requires-3 c κs = search needs
+
+add-c : tie.Need-add-c Inv-loop μ-loop
+add-c c =
+    let c13 = c .before .before .before .before .before .before .before .before .before .before .before .before .before in
+    let c14 = c13 .before in
+    omega (arith, c14 .loop .inv .1 .back .most, c13 .loop-test .taken, c .one-if3 .ensures .1)
 
 loop-less : tie.Need-loop-less Inv-loop μ-loop
-loop-less c = search needs
+loop-less c =
+    let c13 = c .before .before .before .before .before .before .before .before .before .before .before .before .before in
+    omega (arith, c13 .loop-test .taken)
 
 loop-again : tie.Need-loop-again Inv-loop μ-loop
 loop-again c =
     let c3 = c .before .before .before in
-    let c8 = c3 .before .before .before .before .before in
-    let c11 = c8 .before .before .before in
-    let s = c11 .before .before .before .args in
-    let ks = ticketsIn (s .image .now) in
-    let ls = lastsIn (s .image .now) in
-    let so = c11 .loop .inv .1 in
-    let here = c8 .before .ticket-at .ensures in
-    let l = ap (λ (k : Ticket). isLive (k .kind)) (sym here) ∙ sym (c8 .is-live .ensures) ∙ c .before .before .before .before .before .before .before .if1 .taken in
-    let asked = number-asked ks ls (c11 .loop .i) _ so (omega arith) _ here _ (c .before .before .before .before .before .before .last-at .ensures) _ (c3 .number-ok .ensures) in
-    let yes = sym asked ∙ not-false _ (c .before .before .if2 .left) in
-    let ok : PlaceOk ks ls (c11 .loop .i)
-    = record {
-      range = λ _. and-l (between 1 _ _) _ yes;
-      grant = ap (λ (k : Ticket). grantOk (nameAt (c11 .loop .i) k) k) (sym here) ∙ sym (c .before .grant-ok .ensures) ∙ not-false _ (c .if3 .left);
-    } in
-    (omega arith, live-turn ks ls (c11 .loop .i) _ so (omega arith) l (and-r (between 1 _ _) _ yes) ok _ (ap (λ (k : Ticket). k .number) here))
+    let c4 = c3 .before in
+    let c5 = c4 .before in
+    let c6 = c5 .before in
+    let c7 = c6 .before in
+    let c9 = c7 .before .before in
+    let c10 = c9 .before in
+    let c11 = c10 .before in
+    let c12 = c11 .before in
+    let c13 = c12 .before in
+    let c14 = c13 .before in (
+      omega (arith, c13 .loop-test .taken),
+      passed-live _ _ _ _ _ _ _ _ _ (c14 .loop .inv .1) (c13 .loop-test .taken) _ (c12 .kind-at .ensures)
+          (omega (arith, c11 .if1 .left)) (c10 .if2 .taken) _ (c9 .ticket-at .ensures) (sym (c7 .ticket-ok .ensures) ∙ not-false _ (c6 .if3 .left)) _ _ _
+          (c5 .is-taken .ensures) (c3 .is-child .ensures) (c .before .is-recall .ensures) _ _ _ (c4 .one-if .ensures .0) (c .before .before .one-if2 .ensures .0)
+          (c .one-if3 .ensures .0),
+    )
 
 loop-less-2 : tie.Need-loop-less-2 Inv-loop μ-loop
-loop-less-2 c = search needs
+loop-less-2 c =
+    let c3 = c .before .before .before in
+    omega (arith, c3 .loop-test .taken)
 
 loop-again-2 : tie.Need-loop-again-2 Inv-loop μ-loop
 loop-again-2 c =
-    let c4 = c .before .before .before .before in
-    let s = c4 .before .before .before .args in
-    let here = c .before .before .ticket-at .ensures in (
-      omega arith,
-      dead-turn (ticketsIn (s .image .now)) (lastsIn (s .image .now)) (c4 .loop .i) _ (c4 .loop .inv .1) (omega arith)
-          (ap (λ (k : Ticket). isLive (k .kind)) (sym here) ∙ sym (c .before .is-live .ensures) ∙ c .if1 .left),
+    let c3 = c .before .before .before in
+    let c4 = c3 .before in (
+      omega (arith, c3 .loop-test .taken),
+      passed-free _ _ _ _ _ _ _ _ _ (c4 .loop .inv .1) (c3 .loop-test .taken) _ (c .before .before .kind-at .ensures)
+          (omega (arith, c .before .if1 .left)) (c .if2 .left),
     )
 
-same-length-3 : tie.Need-same-length-3 Inv-loop μ-loop
-same-length-3 c = omega (arith, c .before .loop .inv .1 .long, ap length (c .before .before .before .before .pre .1), length-replicate {A = ℕ} 256 0)
+same-length-9 : tie.Need-same-length-9 Inv-loop μ-loop
+same-length-9 c =
+    let c7 = c .before .before .before .before .before .before .before in
+    c .before .loop .inv .1 .so .long ∙ sym (blank c7)
+
+same-length-10 : tie.Need-same-length-10 Inv-loop μ-loop
+same-length-10 c =
+    let c7 = c .before .before .before .before .before .before .before in
+    c .before .loop .inv .1 .long .0 ∙ sym (c7 .pre .1 .1 .0)
+
+same-length-11 : tie.Need-same-length-11 Inv-loop μ-loop
+same-length-11 c =
+    let c7 = c .before .before .before .before .before .before .before in
+    c .before .loop .inv .1 .long .1 .0 ∙ sym (c7 .pre .1 .1 .1 .0)
+
+same-length-12 : tie.Need-same-length-12 Inv-loop μ-loop
+same-length-12 c =
+    let c7 = c .before .before .before .before .before .before .before in
+    c .before .loop .inv .1 .long .1 .1 ∙ sym (c7 .pre .1 .1 .1 .1)
 
 returns-3 : tie.Need-returns-3 Inv-loop μ-loop
 returns-3 c =
-    let s = c .before .before .before .before .args in
-    let ks = ticketsIn (s .image .now) in
-    let so = c .before .loop .inv .1 in (
-      λ t z flat. sym
-          (rules-pass t z ks (lastsIn (s .image .now)) flat (λ p h. so .ok p (omega arith)) (λ p q g h. so .apart p q g (omega arith))),
-      λ _. all-written ks (lastsIn (s .image .now)) (c .before .loop .i) _ (tickets-long (s .image .now)) (omega arith) so,
-    )
+    let end : c .before .loop .i ≡ 256 = omega (arith, c .before .loop .inv .0, c .loop-test .left) in
+    (λ t z flat. sym (all-pass _ _ _ _ _ _ _ _ _ (c .before .loop .inv .1) end t z flat), λ _. all-indexed _ _ _ _ _ _ _ _ _ (c .before .loop .inv .1) end)
 
 pub programs-ok-spec : {M : Type 1} → statement M
 programs-ok-spec =
@@ -163,29 +271,46 @@ programs-ok-spec =
     Inv-loop
     μ-loop
     loop-holds
-    ticket-at-requires
+    kind-at-requires
     add-i
-    is-live-requires
-    mul-from
-    add-to
-    last-at-requires
-    mul-number-ok
-    sub-number-ok
-    part-number-ok-start
-    part-number-ok-end
-    number-ok-requires
+    refused-requires
     same-length
-    returns
-    cast-t21
-    cast-t23
-    grant-ok-requires
     same-length-2
+    same-length-3
+    same-length-4
+    returns
+    ticket-at-requires
+    ticket-ok-requires
+    refused-requires-2
+    same-length-5
+    same-length-6
+    same-length-7
+    same-length-8
     returns-2
     mul-numbers
     slice-write-numbers
+    cast-place
+    mul-taken
+    slice-write-taken
+    mul-children
+    slice-write-children
+    mul-recalls
+    slice-write-recalls
+    is-taken-requires
+    one-if-requires
+    add-a
+    is-child-requires
+    one-if-requires-2
+    add-b
+    is-recall-requires
+    one-if-requires-3
+    add-c
     loop-less
     loop-again
     loop-less-2
     loop-again-2
-    same-length-3
+    same-length-9
+    same-length-10
+    same-length-11
+    same-length-12
     returns-3)

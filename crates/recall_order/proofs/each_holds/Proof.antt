@@ -61,7 +61,9 @@ own-name-requires c κs =
     omega (arith, c .before .before .wide .ensures, c10 .pre .1 .1 .1 .0 .low (c5 .loop .i) (c4 .loop-test .taken))
 
 place-of-requires : tie.Need-place-of-requires Inv-loop μ-loop
-place-of-requires c κs = c .before .before .before .before .before .before .before .before .before .before .before .before .pre .1 .0
+place-of-requires c κs =
+    let c12 = c .before .before .before .before .before .before .before .before .before .before .before .before in
+    c12 .pre .1 .0
 
 returns : tie.Need-returns Inv-loop μ-loop
 returns c =
@@ -75,7 +77,9 @@ returns c =
     λ t x. no-grant x w (c .if1 .taken)
 
 ticket-at-requires-2 : tie.Need-ticket-at-requires-2 Inv-loop μ-loop
-ticket-at-requires-2 c κs = (c .before .before .before .before .before .before .before .before .before .before .before .before .before .before .pre .0, omega (arith, c .if1 .left))
+ticket-at-requires-2 c κs =
+    let c14 = c .before .before .before .before .before .before .before .before .before .before .before .before .before .before in
+    (c14 .pre .0, omega (arith, c .if1 .left))
 
 recall-parent-ok-requires : tie.Need-recall-parent-ok-requires Inv-loop μ-loop
 recall-parent-ok-requires c κs = search needs
@@ -144,7 +148,9 @@ returns-4 c =
     (omega (arith, c3 .if4 .left, has-key w)) (c .before .before .ticket-at3 .ensures) (not-so (c .before .is-child-of .ensures) (c .if5 .taken))
 
 loop-less : tie.Need-loop-less Inv-loop μ-loop
-loop-less c = omega (arith, c .before .before .before .before .before .before .before .before .before .before .before .before .before .before .before .before .before .before .loop-test .taken)
+loop-less c =
+    let c18 = c .before .before .before .before .before .before .before .before .before .before .before .before .before .before .before .before .before .before in
+    omega (arith, c18 .loop-test .taken)
 
 loop-again : tie.Need-loop-again Inv-loop μ-loop
 loop-again c =
@@ -170,7 +176,9 @@ loop-again c =
     )
 
 was-given-requires : tie.Need-was-given-requires Inv-loop μ-loop
-was-given-requires c κs = c .before .before .before .before .before .before .before .before .before .before .before .before .before .before .before .before .before .before .before .before .pre .0
+was-given-requires c κs =
+    let c20 = c .before .before .before .before .before .before .before .before .before .before .before .before .before .before .before .before .before .before .before .before in
+    c20 .pre .0
 
 returns-5 : tie.Need-returns-5 Inv-loop μ-loop
 returns-5 c =
@@ -190,10 +198,14 @@ returns-5 c =
     (not-so (c .before .was-given .ensures) (c .if6 .taken))
 
 note-of-requires : tie.Need-note-of-requires Inv-loop μ-loop
-note-of-requires c κs = c .before .before .before .before .before .before .before .before .before .before .before .before .before .before .before .before .before .before .before .before .before .before .pre .1 .1 .0
+note-of-requires c κs =
+    let c22 = c .before .before .before .before .before .before .before .before .before .before .before .before .before .before .before .before .before .before .before .before .before .before in
+    c22 .pre .1 .1 .0
 
 entry-at-requires : tie.Need-entry-at-requires Inv-loop μ-loop
-entry-at-requires c κs = (c .before .before .before .before .before .before .before .before .before .before .before .before .before .before .before .before .before .before .before .before .before .before .before .before .pre .0, omega (arith, c .if7 .taken))
+entry-at-requires c κs =
+    let c24 = c .before .before .before .before .before .before .before .before .before .before .before .before .before .before .before .before .before .before .before .before .before .before .before .before in
+    (c24 .pre .0, omega (arith, c .if7 .taken))
 
 far-entry-ok-requires : tie.Need-far-entry-ok-requires Inv-loop μ-loop
 far-entry-ok-requires c κs = search needs
@@ -220,7 +232,9 @@ returns-6 c =
     (so (c6 .was-given .ensures) (c5 .if6 .left)) (c4 .note-of .result) (c4 .note-of .ensures) (c .before .before .entry-at .ensures) (c .before .far-entry-ok .ensures) (c .if8 .taken)
 
 loop-less-2 : tie.Need-loop-less-2 Inv-loop μ-loop
-loop-less-2 c = omega (arith, c .before .before .before .before .before .before .before .before .before .before .before .before .before .before .before .before .before .before .before .before .before .loop-test .taken)
+loop-less-2 c =
+    let c21 = c .before .before .before .before .before .before .before .before .before .before .before .before .before .before .before .before .before .before .before .before .before in
+    omega (arith, c21 .loop-test .taken)
 
 loop-again-2 : tie.Need-loop-again-2 Inv-loop μ-loop
 loop-again-2 c =
@@ -249,7 +263,9 @@ loop-again-2 c =
     )
 
 loop-less-3 : tie.Need-loop-less-3 Inv-loop μ-loop
-loop-less-3 c = omega (arith, c .before .before .before .before .before .before .before .before .before .before .before .before .before .before .before .before .before .before .loop-test .taken)
+loop-less-3 c =
+    let c18 = c .before .before .before .before .before .before .before .before .before .before .before .before .before .before .before .before .before .before in
+    omega (arith, c18 .loop-test .taken)
 
 loop-again-3 : tie.Need-loop-again-3 Inv-loop μ-loop
 loop-again-3 c =
