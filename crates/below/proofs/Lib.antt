@@ -2,4 +2,4 @@ pub mod DirectlyBelow
 pub mod Reaching
 pub mod Queue
 pub mod Turns
-pub mod Laws
+pub mod InImage

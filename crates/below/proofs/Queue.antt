@@ -10,7 +10,7 @@ use lib.ListN.{length, getD, set, length-set}
 use lib.Seq.{getD-set-same, getD-set-other}
 use borrow.Author.Tests.{eqb-true, eqb-false, ltb-true, ltb-false}
 use Rattle.lists.proofs.Tests.{Case, pass, fail, case, contradiction, and-l, and-r, and-intro}
-use Rattle.lists.proofs.Pigeonhole.{pigeonhole, none-left-out}
+use Rattle.lists.proofs.Pigeonhole.{none-left-out}
 use Rattle.tables.specs.declared.{Name.Name, Entry.Entry}
 use Rattle.tables.specs.Names.{noEntry}
 use Rattle.tables.specs.Change.{dropEntry}
@@ -49,9 +49,6 @@ abbrev pub Sweeping : Name → List Entry → ℕ → Type 0
 Sweeping n us i = (j : ℕ) → j < i → directlyBelow n (at us j) ≡ false
 
 module _ {es us : List Entry} {x : Name} {queue : List ℕ} {tail : ℕ} (now : Partly es us x queue tail) where
-  pub tail-low : tail ≤ 256
-  tail-low = pigeonhole 256 tail (λ h. getD queue h 0) (λ h b. now .removed h b .low) (now .once)
-
   -- a place with a live entry is not in the queue, so the queue has room for it
   not-queued : (i : ℕ) → at us i .live ≡ true → Queued queue tail i → ⊥
   not-queued i l q =
@@ -78,7 +75,7 @@ module _ {es us : List Entry} {x : Name} {queue : List ℕ} {tail : ℕ} (now : 
     queue′ : List ℕ
     queue′ = set queue tail i
 
-    was : at us i ≡ at es i
+    pub was : at us i ≡ at es i
     was = go (now .kept i b)
       where
         go : (at us i ≡ at es i) ⊎ Queued queue tail i → at us i ≡ at es i

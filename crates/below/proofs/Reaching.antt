@@ -74,6 +74,10 @@ named es n l = found-key entryKeys entryLaws es n l
 abbrev pub under : List Entry → Name → Name → Bool
 under es x n = reaches 256 (entryParent (entryIn es)) n x
 
+-- the entries without x and all below it
+unfoldable pub withoutBelow : List Entry → Name → List Entry
+withoutBelow es x = map (dropEntry (under es x)) es
+
 module _ (es : List Entry) (ok : LinkedEntries es) where
   pub at-name : (i : ℕ) → i < length es → at es i .live ≡ true → entryIn es (at es i .name) ≡ at es i
   unfolding entryIn isNamed

@@ -20,9 +20,9 @@ use Rattle.tables.specs.Chains.{reaches}
 use Rattle.tables.specs.Change.{dropEntry}
 use Rattle.tables.proofs.NameLaws.{eqName-test}
 use Rattle.tables.proofs.ByPlace.{at}
-use Rattle.below.specs.Links.{directlyBelow, LinkedEntries, withoutBelow}
+use Rattle.below.specs.Links.{directlyBelow, LinkedEntries}
 use Rattle.below.proofs.DirectlyBelow.{below-live}
-use Rattle.below.proofs.Reaching.{under, named, at-name, all-under, dropped-by-places}
+use Rattle.below.proofs.Reaching.{under, withoutBelow, named, at-name, all-under, dropped-by-places}
 use Rattle.below.proofs.Queue.{Removed, Queued, Partly, Swept, Sweeping, tail-room, one-more, swept-still, sweeping-gone, all-gone}
 
 -- ---- the start
@@ -95,7 +95,7 @@ module _ {es us : List Entry} {start : ℕ} {queue : List ℕ} {tail head : ℕ}
     pub turn-room : i < 256 → directlyBelow n (at us i) ≡ true → tail < 256
     turn-room b d = tail-room (t .turns .partly) i b (below-live n (at us i) d)
 
-    turn-under : under es (at es start .name) n ≡ true
+    pub turn-under : under es (at es start .name) n ≡ true
     turn-under = ap (under es (at es start .name)) (sym (t .of)) ∙ t .turns .partly .removed head (t .more) .under
 
     pub turn-gone : LinkedEntries es → length es ≡ 256 → {none : Entry} → none ≡ noEntry → i < 256 → directlyBelow n (at us i) ≡ true
@@ -134,7 +134,7 @@ module _ (es : List Entry) (x : Name) (ok : LinkedEntries es) (long : length es 
   x-live b =
       and-l (at es i .live) _ (ap (λ (j : ℕ). isNamed x (at es j)) q ∙ find-passes (isNamed x) es noEntry (omega arith))
 
-  x-named : i < 256 → at es i .name ≡ x
+  pub x-named : i < 256 → at es i .name ≡ x
   x-named b =
       let l : entryIn es x .live ≡ true = ap (λ (e : Entry). e .live) at-place ∙ x-live b in
       ap (λ (e : Entry). e .name) (sym at-place) ∙ named es x l

@@ -1,14 +1,13 @@
--- What removal needs and says of the links between entries.
+-- What removal needs of the links between entries.
 use Prim.Native.Nat.{ℕ, _<_}
 use mathlib.Core.Path.{_≡_}
 use mathlib.Core.Bool.{Bool, true, false, not, _&&_}
-use mathlib.Core.List.{List, map}
+use mathlib.Core.List.{List}
 use lib.ListN.{length, getD}
 use Rattle.tables.specs.declared.{Name.Name, Entry.Entry}
 use Rattle.tables.specs.Names.{eqName, isNone, noEntry}
 use Rattle.tables.specs.Lookup.{entryIn}
-use Rattle.tables.specs.Chains.{reaches, endOf, entryParent}
-use Rattle.tables.specs.Change.{dropEntry}
+use Rattle.tables.specs.Chains.{endOf, entryParent}
 
 -- a live entry whose parent is the entry n, not the store
 unfoldable pub directlyBelow : Name → Entry → Bool
@@ -24,7 +23,3 @@ pub record LinkedEntries (entries : List Entry) : Type 0 where
       → entryIn entries (entryIn entries n .parent) .live ≡ true
   -- "Chains end at the store.": a walk along parents comes to a named entry before it has counted 256
   pub ends : (n : Name) → entryIn entries n .live ≡ true → isNone (endOf 256 (entryParent (entryIn entries)) n) ≡ false
-
--- the entries without x and all below it
-unfoldable pub withoutBelow : List Entry → Name → List Entry
-withoutBelow entries x = map (dropEntry (λ n. reaches 256 (entryParent (entryIn entries)) n x)) entries

@@ -1,25 +1,13 @@
-// Removal in the dock: an entry with all below it.
+// Removal in the dock: an entry with all below it, in the image.
 ghost use mathlib.Core.Path.{_≡_};
-ghost use Rattle.lists.specs.Lists.{firstIndex};
-ghost use Rattle.tables.specs.Lookup.{isNamed};
-ghost use Rattle.below.specs.Links.{directlyBelow, LinkedEntries, withoutBelow};
+ghost use mathlib.Core.Bool.{true};
+ghost use Rattle.tables.specs.Chains.{atOrBelow};
+ghost use Rattle.tables.specs.Change.{dropEntries};
+ghost use Rattle.image.specs.Image.{decode, isImage};
+ghost use Rattle.in_place.specs.Shows.{Holds};
+ghost use Rattle.below.specs.Links.{directlyBelow, LinkedEntries};
 use tables::Entry;
 use tables::Name;
-
-// The place of the entry of a name, or 256. `dock::entry_in` is not asked by it: that would copy all entries once more.
-fn place_of(es: [Entry; 256], n: Name) -> usize
-    ensures { λ r. ⌜ r ≡ firstIndex (isNamed n) es ⌝ }
-{
-    let mut i: usize = 0;
-    while i < 256 {
-        let e = es[i];
-        if dock::is_named(e, n) {
-            return i;
-        }
-        i = i + 1;
-    }
-    i
-}
 
 // Is it a live entry whose parent is the entry n?
 fn is_below(e: Entry, n: Name) -> bool
@@ -38,39 +26,35 @@ fn is_below(e: Entry, n: Name) -> bool
     parent.is(n)
 }
 
-// The entries without the entry x and all below it. The queue holds the places of the entries that are gone; at each in turn those directly
-// below it go too, so that removal costs what it removes.
-pub fn drop_below(es: [Entry; 256], x: Name) -> [Entry; 256]
-    requires { ⌜ LinkedEntries es ⌝ }
-    ensures { λ r. ⌜ r ≡ withoutBelow es x ⌝ }
+// The entry x goes, and all below it. The queue holds the names of those that are gone; at each in turn those directly below it go too, so
+// that removal costs what it removes.
+pub fn drop_below(image: &mut [u8], x: Name)
+    requires { ⌜ (isImage (now image) ≡ true) × LinkedEntries (decode (now image) .entries) ⌝ }
+    ensures { λ _. ⌜ Holds (now (image .exit)) (dropEntries (atOrBelow (decode (now (image .entry))) x) (decode (now (image .entry)))) ⌝ }
 {
-    let at = place_of(es, x);
+    let at = lookup::entry_place(image, x);
     if 256 <= at {
-        return es;
+        return;
     }
     let none = Entry::none();
-    let mut u = es;
-    u[at] = none;
-    let mut queue = [0usize; 256];
-    queue[0] = at;
+    in_place::put_entry(image, at, none);
+    let mut queue = [x; 256];
     let mut tail: usize = 1;
     let mut head: usize = 0;
     while head < tail {
-        let place = queue[head];
-        let above = es[place];
-        let n = above.name;
+        let n = queue[head];
         let mut i: usize = 0;
         while i < 256 {
             let j = i;
             i = i + 1;
-            let e = u[j];
+            let e = decode::entry_at(image, j);
             if is_below(e, n) {
-                u[j] = none;
-                queue[tail] = j;
+                in_place::put_entry(image, j, none);
+                let name = e.name;
+                queue[tail] = name;
                 tail = tail + 1;
             }
         }
         head = head + 1;
     }
-    u
 }

@@ -1,7 +1,9 @@
-// The lowest run of sheets that no entry has.
+// The lowest run of sheets that no entry of the image has.
 ghost use mathlib.Core.Path.{_≡_};
 ghost use Prim.Native.Nat.{_≤_};
+ghost use lib.ListN.{length};
 ghost use Rattle.tables.specs.Sheets.{lowestRun};
+ghost use Rattle.decode.specs.Places.{entriesIn};
 ghost use Rattle.free_run.specs.Ends.{further, noteEnd, noteEnds};
 use tables::Entry;
 
@@ -30,12 +32,13 @@ fn note_end(ends: &mut [u32; 256], e: Entry)
     ends[first] = furthest(old, end);
 }
 
-fn note_ends(ends: &mut [u32; 256], es: [Entry; 256])
-    ensures { λ r. ⌜ now (ends .exit) ≡ noteEnds es (now (ends .entry)) ⌝ }
+fn note_ends(ends: &mut [u32; 256], image: &[u8])
+    requires { ⌜ length (now image) ≡ 11328 ⌝ }
+    ensures { λ r. ⌜ now (ends .exit) ≡ noteEnds (entriesIn (now (image .entry))) (now (ends .entry)) ⌝ }
 {
     let mut i: usize = 0;
     while i < 256 {
-        let e = es[i];
+        let e = decode::entry_at(image, i);
         i = i + 1;
         note_end(ends, e);
     }
@@ -43,12 +46,12 @@ fn note_ends(ends: &mut [u32; 256], es: [Entry; 256])
 
 // The first sheet of the lowest run of `count` sheets outside all entries, or 256. One pass over the entries, one over the sheets: `start`
 // is where the furthest of the entries that begin below s ends, and no free run begins below it.
-pub fn lowest_run(es: [Entry; 256], count: usize) -> usize
-    requires { ⌜ (1 ≤ count) × (count ≤ 256) ⌝ }
-    ensures { λ r. ⌜ r ≡ lowestRun es count ⌝ }
+pub fn lowest_run(image: &[u8], count: usize) -> usize
+    requires { ⌜ (length (now image) ≡ 11328) × (1 ≤ count) × (count ≤ 256) ⌝ }
+    ensures { λ r. ⌜ r ≡ lowestRun (entriesIn (now (image .entry))) count ⌝ }
 {
     let mut ends = [0u32; 256];
-    note_ends(&mut ends, es);
+    note_ends(&mut ends, image);
     let mut start: u32 = 0;
     let mut s: usize = 0;
     while s < 256 {

@@ -1,62 +1,53 @@
--- Laws of `spread` with rows of eight: how long it is, a row of it, an element of it, and a loop that stores one row after the other.
-use Prim.Native.Nat.{ℕ, zero, suc, _+_, _*_, _<_}
+-- A pad's numbers and places of parents: how many there are, a program's row of numbers, and the place of one ticket's parent.
+use Prim.Native.Nat.{ℕ, _+_, _*_, _/_, _≤_, _<_}
 use native.Mathlib.Omega.{arith}
-use mathlib.Core.Path.{_≡_, refl, sym, ap, _∙_}
-use mathlib.Core.List.{List, [], _∷_, _++_}
-use lib.ListN.{length, getD, take, drop, length-append}
-use lib.Seq.{take-at, drop-append-add, getD-take, getD-drop}
-use Rattle.lists.proofs.Front.{front, front-part}
-use Rattle.pad_places.specs.Places.{spread}
+use mathlib.Core.Path.{_≡_, sym, ap, subst, _∙_}
+use mathlib.Core.List.{List, map}
+use lib.ListN.{length, getD, take, drop, length-drop, length-map, List·getD-map}
+use lib.Seq.{length-take-le, getD-take, getD-drop, ext-getD}
+use Rattle.lists.proofs.PartLaws.{length-tabulate, getD-tabulate}
+use Rattle.tables.specs.declared.Tables.{Tables}
+use Rattle.tables.specs.Names.{free}
+use Rattle.tables.specs.Lookup.{Sized, ticketsOf}
+use Rattle.tables.proofs.ByPlace.{ticketAt}
+use Rattle.index.specs.Places.{placed, numberOf}
+use Rattle.index.proofs.Laying.{at-place}
+use Rattle.pad_places.specs.Places.{onPad, numbersOf, upOf, upsOf}
 
-module _ {A B : Type 0} (row : ℕ → A → List B) (d : A) where
-  -- every row has eight elements, wherever it stands
-  abbrev pub Eights : List A → Type 0
-  Eights l = (s i : ℕ) → i < length l → length (row s (getD l i d)) ≡ 8
+module _ (t : Tables) (pad : ℕ) where
+  pub numbers-long : length (numbersOf t pad) ≡ 64
+  unfolding numbersOf
+  numbers-long = length-tabulate 64 (λ i. numberOf (onPad t pad i))
 
-  spread-long-from : (s : ℕ) (l : List A) → Eights l → length (spread row s l) ≡ 8 * length l
-  unfolding spread
-  spread-long-from s [] h = refl
-  spread-long-from s (x ∷ xs) h =
-      length-append (row s x) (spread row (suc s) xs)
-      ∙ omega (arith, h s 0 (omega arith), spread-long-from (suc s) xs (λ r i b. h r (suc i) (omega arith)))
+  pub ups-long : (numbers : List ℕ) → length (upsOf t pad numbers) ≡ 64
+  unfolding upsOf
+  ups-long numbers = length-tabulate 64 (λ i. upOf numbers (i / 8) (onPad t pad i))
 
-  pub spread-long : (l : List A) → Eights l → length (spread row 0 l) ≡ 8 * length l
-  spread-long l h = spread-long-from 0 l h
+  -- what stands in a program's place i
+  module _ (b i : ℕ) (c : b < 8) (h : i < 8) where
+    pub on-pad : onPad t pad (8 * b + i) ≡ ticketAt t pad b i
+    on-pad =
+        let e : 64 * pad + (8 * b + i) ≡ 64 * pad + 8 * b + i = omega arith in
+        ap (placed t) e ∙ sym (at-place t pad b i c h)
 
-  row-from : (s b : ℕ) (l : List A) → Eights l → b < length l → take 8 (drop (8 * b) (spread row s l)) ≡ row (s + b) (getD l b d)
-  unfolding spread
-  row-from s b [] h c = absurd (omega arith)
-  row-from s zero (x ∷ xs) h c =
-      let z : s ≡ s + 0 = omega arith in
-      take-at (row s x) (spread row (suc s) xs) 8 (h s 0 (omega arith)) ∙ ap (λ (m : ℕ). row m x) z
-  row-from s (suc b) (x ∷ xs) h c =
-      let z : 8 * suc b ≡ length (row s x) + 8 * b = omega (arith, h s 0 (omega arith)) in
-      let y : suc s + b ≡ s + suc b = omega arith in
-      ap (λ (m : ℕ). take 8 (drop m (row s x ++ spread row (suc s) xs))) z
-      ∙ ap (take 8) (drop-append-add (row s x) (spread row (suc s) xs) (8 * b))
-      ∙ row-from (suc s) b xs (λ r i c. h r (suc i) (omega arith)) (omega arith)
-      ∙ ap (λ (m : ℕ). row m (getD xs b d)) y
+    number-there : getD (numbersOf t pad) (8 * b + i) 0 ≡ numberOf (ticketAt t pad b i)
+    unfolding numbersOf
+    number-there = getD-tabulate 64 (λ j. numberOf (onPad t pad j)) (8 * b + i) 0 (omega (arith, c, h)) ∙ ap numberOf on-pad
 
-  module _ (l : List A) (h : Eights l) (b : ℕ) (c : b < length l) where
-    pub row-at : take 8 (drop (8 * b) (spread row 0 l)) ≡ row b (getD l b d)
-    row-at =
-        let z : 0 + b ≡ b = omega arith in
-        row-from 0 b l h c ∙ ap (λ (m : ℕ). row m (getD l b d)) z
+    pub up-there : (numbers : List ℕ) → getD (upsOf t pad numbers) (8 * b + i) 0 ≡ upOf numbers b (ticketAt t pad b i)
+    unfolding upsOf
+    up-there numbers =
+        let e : (8 * b + i) / 8 ≡ b = omega (arith, h) in
+        getD-tabulate 64 (λ j. upOf numbers (j / 8) (onPad t pad j)) (8 * b + i) 0 (omega (arith, c, h)) ∙ λ m. upOf numbers (e m) (on-pad m)
 
-    pub spread-at : (i : ℕ) (e : B) → i < 8 → getD (spread row 0 l) (8 * b + i) e ≡ getD (row b (getD l b d)) i e
-    spread-at i e low =
-        sym (getD-drop (8 * b) (spread row 0 l) i e) ∙ sym (getD-take 8 (drop (8 * b) (spread row 0 l)) i e low)
-        ∙ ap (λ (r : List B). getD r i e) row-at
-
-    -- row b stored after the rows before it, in the part of k = 8 places
-    pub spread-more : (to t r : List B) (k : ℕ) → k ≡ 8 → length t ≡ 8 * length l → to ≡ front (8 * b) (spread row 0 l) t → r ≡ row b (getD l b d)
-        → take (8 * b) to ++ (r ++ drop k (drop (8 * b) to)) ≡ front (8 * (b + 1)) (spread row 0 l) t
-    spread-more to t r k w n e q =
-        let long : length (spread row 0 l) ≡ 8 * length l = spread-long l h in
-        let z : 8 * b + 8 ≡ 8 * (b + 1) = omega arith in
-        let kept : List B = front (8 * b) (spread row 0 l) t in
-        ap (λ (m : ℕ). take (8 * b) to ++ (r ++ drop m (drop (8 * b) to))) w
-        ∙ ap (λ (u : List B). take (8 * b) u ++ (r ++ drop 8 (drop (8 * b) u))) e
-        ∙ ap (λ (u : List B). take (8 * b) kept ++ (u ++ drop 8 (drop (8 * b) kept))) (q ∙ sym row-at)
-        ∙ front-part (8 * b) 8 (spread row 0 l) t (omega arith) (n ∙ sym long)
-        ∙ ap (λ (m : ℕ). front m (spread row 0 l) t) z
+  pub row-at : Sized t → pad < 4 → (b : ℕ) → b < 8 → take 8 (drop (8 * b) (numbersOf t pad)) ≡ map numberOf (ticketsOf t pad b)
+  unfolding numberOf
+  row-at z a b c =
+      let l : 8 ≤ length (drop (8 * b) (numbersOf t pad)) = omega (arith, length-drop (8 * b) (numbersOf t pad), numbers-long, c) in
+      let m : length (take 8 (drop (8 * b) (numbersOf t pad))) ≡ 8 = length-take-le 8 (drop (8 * b) (numbersOf t pad)) l in
+      ext-getD 0 _ _ (m ∙ sym (length-map (ticketsOf t pad b) numberOf ∙ z .tickets pad b a c)) (λ i h. at i (subst (λ (x : ℕ). i < x) m h))
+    where
+      at : (i : ℕ) → i < 8 → getD (take 8 (drop (8 * b) (numbersOf t pad))) i 0 ≡ getD (map numberOf (ticketsOf t pad b)) i 0
+      at i h =
+          getD-take 8 (drop (8 * b) (numbersOf t pad)) i 0 h ∙ getD-drop (8 * b) (numbersOf t pad) i 0 ∙ number-there b i c h
+          ∙ sym (List·getD-map numberOf (ticketsOf t pad b) i free)

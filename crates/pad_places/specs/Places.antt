@@ -1,26 +1,23 @@
 -- A pad by places: place 8 * program + i is the program's place i, and 64 is no place. Chains are walked by places (crate chains), since
 -- a place is one number where a name is three.
-use Prim.Native.Nat.{ℕ, suc, _+_, _*_}
+use Prim.Native.Nat.{ℕ, _+_, _*_, _/_}
 use mathlib.Core.Bool.{_||_, cond}
-use mathlib.Core.List.{List, [], _∷_, _++_, map}
+use mathlib.Core.List.{List}
 use lib.Dec.{eqb, leb, ltb}
 use lib.ListN.{take, drop}
 use Rattle.lists.specs.Lists.{firstIndex}
-use Rattle.tables.specs.declared.{Kind.Kind, Ticket.Ticket, Program.Program, Pad.Pad}
+use Rattle.lists.specs.Parts.{tabulate}
+use Rattle.tables.specs.declared.{Kind.Kind, Ticket.Ticket, Tables.Tables}
 use Rattle.tables.specs.declared.Kind.the-variants.{Free, Taken, Received, Child, Recall}
-use Rattle.index.specs.Places.{numberOf}
+use Rattle.index.specs.Places.{placed, numberOf}
 
--- a list made of each element, one after the other; the elements' places count from i
-unfoldable pub spread : {A B : Type 0} → (ℕ → A → List B) → ℕ → List A → List B
-spread row i [] = []
-spread row i (x ∷ xs) = row i x ++ spread row (suc i) xs
+-- what stands in the pad's place i
+abbrev pub onPad : Tables → ℕ → ℕ → Ticket
+onPad t pad i = placed t (64 * pad + i)
 
--- ---- the numbers in a pad's places, 0 where a place is free
-abbrev pub numbersIn : ℕ → Program → List ℕ
-numbersIn program q = map numberOf (q .tickets)
-
-unfoldable pub numbersOf : Pad → List ℕ
-numbersOf p = spread numbersIn 0 (p .programs)
+-- the numbers in a pad's places, 0 where a place is free
+unfoldable pub numbersOf : Tables → ℕ → List ℕ
+numbersOf t pad = tabulate 64 (λ i. numberOf (onPad t pad i))
 
 -- the first place of a program that has the number; 64 where none does, or there is no such program or number
 unfoldable pub placeIn : List ℕ → ℕ → ℕ → ℕ
@@ -41,8 +38,5 @@ upBy Recall numbers program k = placeIn numbers program (k .own)
 unfoldable pub upOf : List ℕ → ℕ → Ticket → ℕ
 upOf numbers program k = upBy (k .kind) numbers program k
 
-abbrev pub upsIn : List ℕ → ℕ → Program → List ℕ
-upsIn numbers program q = map (upOf numbers program) (q .tickets)
-
-unfoldable pub upsOf : List ℕ → Pad → List ℕ
-upsOf numbers p = spread (upsIn numbers) 0 (p .programs)
+unfoldable pub upsOf : Tables → ℕ → List ℕ → List ℕ
+upsOf t pad numbers = tabulate 64 (λ i. upOf numbers (i / 8) (onPad t pad i))

@@ -1,36 +1,28 @@
-// A pad by places: the number in each place, the place of a number, and the place of each ticket's parent.
+// A pad by places, read from the tables' image: the number in each place, the place of a number, and the place of each ticket's parent.
+ghost use Prim.Native.Nat.{_<_};
 ghost use mathlib.Core.Path.{_≡_};
-ghost use mathlib.Core.List.{map};
 ghost use lib.ListN.{length};
-ghost use Rattle.index.specs.Places.{numberOf};
+ghost use Rattle.image.specs.Image.{decode};
 ghost use Rattle.pad_places.specs.Places.{numbersOf, placeIn, upOf, upsOf};
 use tables::Kind;
-use tables::Pad;
-use tables::Program;
 use tables::Ticket;
 
-fn write_numbers_in(q: Program, to: &mut [u16])
-    requires { ⌜ length (now to) ≡ 8 ⌝ }
-    ensures { λ r. ⌜ now (to .exit) ≡ map numberOf (q .tickets) ⌝ }
-{
-    let mut i: usize = 0;
-    while i < 8 {
-        let k = q.tickets[i];
-        to[i] = index::number_of(k);
-        i = i + 1;
-    }
-}
+// Places of a pad, and of a program.
+const PAD: usize = 64;
+
+const PROGRAM: usize = 8;
 
 // The number in each place of the pad, 0 where it is free.
-pub fn write_numbers(p: Pad, to: &mut [u16])
-    requires { ⌜ length (now to) ≡ 64 ⌝ }
-    ensures { λ r. ⌜ now (to .exit) ≡ numbersOf p ⌝ }
+pub fn write_numbers(image: &[u8], pad: usize, to: &mut [u16])
+    requires { ⌜ (length (now image) ≡ 11328) × ((pad < 4) × (length (now to) ≡ 64)) ⌝ }
+    ensures { λ _. ⌜ now (to .exit) ≡ numbersOf (decode (now (image .entry))) pad ⌝ }
 {
-    let mut b: usize = 0;
-    while b < 8 {
-        let q = p.programs[b];
-        write_numbers_in(q, &mut to[8 * b..8 * b + 8]);
-        b = b + 1;
+    let from = PAD * pad;
+    let mut i: usize = 0;
+    while i < PAD {
+        let k = decode::ticket_at(image, from + i);
+        to[i] = index::number_of(k);
+        i = i + 1;
     }
 }
 
@@ -71,27 +63,16 @@ fn up_of(k: Ticket, program: usize, numbers: &[u16]) -> usize
     }
 }
 
-fn write_ups_in(q: Program, program: usize, numbers: &[u16], to: &mut [u16])
-    requires { ⌜ (length (now numbers) ≡ 64) × (length (now to) ≡ 8) ⌝ }
-    ensures { λ r. ⌜ now (to .exit) ≡ map (upOf (now (numbers .entry)) program) (q .tickets) ⌝ }
-{
-    let mut i: usize = 0;
-    while i < 8 {
-        let k = q.tickets[i];
-        to[i] = up_of(k, program, numbers) as u16;
-        i = i + 1;
-    }
-}
-
 // The place of the parent of each ticket of the pad, 64 where it has none.
-pub fn write_ups(p: Pad, numbers: &[u16], to: &mut [u16])
-    requires { ⌜ (length (now numbers) ≡ 64) × (length (now to) ≡ 64) ⌝ }
-    ensures { λ r. ⌜ now (to .exit) ≡ upsOf (now (numbers .entry)) p ⌝ }
+pub fn write_ups(image: &[u8], pad: usize, numbers: &[u16], to: &mut [u16])
+    requires { ⌜ (length (now image) ≡ 11328) × ((pad < 4) × ((length (now numbers) ≡ 64) × (length (now to) ≡ 64))) ⌝ }
+    ensures { λ _. ⌜ now (to .exit) ≡ upsOf (decode (now (image .entry))) pad (now (numbers .entry)) ⌝ }
 {
-    let mut b: usize = 0;
-    while b < 8 {
-        let q = p.programs[b];
-        write_ups_in(q, b, numbers, &mut to[8 * b..8 * b + 8]);
-        b = b + 1;
+    let from = PAD * pad;
+    let mut i: usize = 0;
+    while i < PAD {
+        let k = decode::ticket_at(image, from + i);
+        to[i] = up_of(k, i / PROGRAM, numbers) as u16;
+        i = i + 1;
     }
 }

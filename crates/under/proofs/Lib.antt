@@ -1,5 +1,5 @@
 pub mod Steps
 pub mod Names
 pub mod Walks
+pub mod OneTicket
 pub mod Removal
-pub mod Laws

@@ -12,54 +12,47 @@ use Rattle.lists.proofs.Tests.{and-r, both-ways}
 use Rattle.lists.proofs.Search.{find-passes}
 use Rattle.lists.proofs.Keyed.{Distinct, found-low, found-key, found-somewhere}
 use Rattle.tables.specs.declared.{Name.Name, Tables.Tables}
-use Rattle.tables.specs.Names.{nameOf, eqName, free, noProgram}
-use Rattle.tables.specs.Lookup.{Sized, padAt, ticketsOf, hasNumber, ticketIn, lookup}
+use Rattle.tables.specs.Names.{nameOf, eqName, free}
+use Rattle.tables.specs.Lookup.{Sized, ticketsOf, hasNumber, ticketIn, lookup}
 use Rattle.tables.proofs.NameLaws.{name-eq, eqName-true, eqName-refl}
 use Rattle.tables.proofs.Keys.{ticketKeys, ticketLaws}
 use Rattle.tables.proofs.ByPlace.{ticketAt, place-low, name-in-range}
 use Rattle.index.proofs.Laws.{first-number}
-use Rattle.pad_places.specs.Places.{numbersIn, numbersOf, placeIn}
+use Rattle.pad_places.specs.Places.{numbersOf, placeIn}
 use Rattle.pad_places.proofs.Places.{indexIn, place-here, Placed, placed}
 use Rattle.pad_places.proofs.Rows.{row-at}
-use Rattle.pad_places.proofs.PadRows.{PadSized, number-rows}
 use Rattle.tables.specs.Kinds.{isLive}
 
 module _ (t : Tables) (z : Sized t) (a : ℕ) (low : a < 4) where
-  pub sized : PadSized (padAt t a)
-  sized = record { programs = z .programs a low; tickets = λ b c. z .tickets a b low c }
-
   -- the place of the name's number on the pad
   abbrev pub at : Name → ℕ
-  at n = placeIn (numbersOf (padAt t a)) (n .program) (n .number)
+  at n = placeIn (numbersOf t a) (n .program) (n .number)
 
   -- where a number stands among the program's tickets
   abbrev pub index : ℕ → ℕ → ℕ
   index b m = firstIndex (hasNumber m) (ticketsOf t a b)
 
-  index-in : (b m : ℕ) → b < 8 → (m ≡ 0 → ⊥) → indexIn (numbersOf (padAt t a)) b m ≡ index b m
-  unfolding numbersOf
-  index-in b m c ne =
-      ap (firstIndex (λ j. eqb j m)) (row-at numbersIn noProgram (padAt t a .programs) (number-rows (padAt t a) sized) b (omega (arith, c, sized .programs)))
-      ∙ first-number m ne (ticketsOf t a b)
+  index-in : (b m : ℕ) → b < 8 → (m ≡ 0 → ⊥) → indexIn (numbersOf t a) b m ≡ index b m
+  index-in b m c ne = ap (firstIndex (λ j. eqb j m)) (row-at t a z low b c) ∙ first-number m ne (ticketsOf t a b)
 
   -- ---- names in one place are one
   -- what a place below 64 tells
   record Stands (b m : ℕ) : Type 0 where
     program : b < 8
     below : index b m < 8
-    here : placeIn (numbersOf (padAt t a)) b m ≡ 8 * b + index b m
+    here : placeIn (numbersOf t a) b m ≡ 8 * b + index b m
 
-  stands : (b m : ℕ) → placeIn (numbersOf (padAt t a)) b m < 64 → Stands b m
+  stands : (b m : ℕ) → placeIn (numbersOf t a) b m < 64 → Stands b m
   stands b m h =
-      let p : Placed (numbersOf (padAt t a)) b m = placed (numbersOf (padAt t a)) b m h in
-      let e : indexIn (numbersOf (padAt t a)) b m ≡ index b m = index-in b m (p .program) (p .number) in
+      let p : Placed (numbersOf t a) b m = placed (numbersOf t a) b m h in
+      let e : indexIn (numbersOf t a) b m ≡ index b m = index-in b m (p .program) (p .number) in
       record { program = p .program; below = omega (arith, e, p .index); here = p .place ∙ ap (λ (i : ℕ). 8 * b + i) e }
 
   number-of : (b m : ℕ) → b < 8 → index b m < 8 → ticketAt t a b (index b m) .number ≡ m
   unfolding hasNumber
   number-of b m c h =
       eqb-true (ticketAt t a b (index b m) .number) m
-      (and-r (isLive (ticketAt t a b (index b m) .kind)) _ (find-passes (hasNumber m) (ticketsOf t a b) free (omega (arith, h, sized .tickets b c))))
+      (and-r (isLive (ticketAt t a b (index b m) .kind)) _ (find-passes (hasNumber m) (ticketsOf t a b) free (omega (arith, h, z .tickets a b low c))))
 
   at-once : (n x : Name) → n .pad ≡ x .pad → at n < 64 → at n ≡ at x → n ≡ x
   at-once n x p h e =
@@ -95,13 +88,13 @@ module _ (t : Tables) (z : Sized t) (a : ℕ) (low : a < 4) where
       let c : n .program < 8 = name-in-range t z n l .program in
       let d : index (n .program) (n .number) < length (ticketsOf t a (n .program))
       = subst (λ (p : ℕ). firstIndex (hasNumber (n .number)) (ticketsOf t p (n .program)) < length (ticketsOf t p (n .program))) e (place-low t z n l) in
-      let i : index (n .program) (n .number) < 8 = omega (arith, d, sized .tickets (n .program) c) in
+      let i : index (n .program) (n .number) < 8 = omega (arith, d, z .tickets a (n .program) low c) in
       let ne : n .number ≡ 0 → ⊥ = λ q. omega (arith, q, pos) in
       record {
         program = c;
         below = i;
         here =
-            sym (place-here (numbersOf (padAt t a)) (n .program) (n .number) (index (n .program) (n .number)) (sym (index-in (n .program) (n .number) c ne)) ne
+            sym (place-here (numbersOf t a) (n .program) (n .number) (index (n .program) (n .number)) (sym (index-in (n .program) (n .number) c ne)) ne
             (omega (arith, c)) i);
       }
 

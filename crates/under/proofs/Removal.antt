@@ -1,139 +1,165 @@
--- Removal by places is removal by names, where the tests agree on the pad's live tickets and the test of names picks none on other pads.
-use Prim.Native.Nat.{ℕ, _+_, _*_, _<_}
+-- Removal by marks is removal by names, where marks and names agree on the pad's live tickets and the names pick none on other pads.
+use Prim.Native.Nat.{ℕ, _+_, _-_, _*_, _/_, _%_, _<_}
 use native.Mathlib.Omega.{arith}
-use mathlib.Core.Path.{_≡_, refl, sym, ap, _∙_}
-use mathlib.Core.Bool.{Bool, true, false, _&&_, _||_, cond}
+use mathlib.Core.Path.{_≡_, refl, sym, ap, subst, _∙_}
+use mathlib.Core.Bool.{Bool, true, false, _&&_, _||_}
 use mathlib.Core.List.{List}
 use lib.Dec.{eqb}
-use lib.ListN.{length, set}
-use Rattle.lists.proofs.Loops.{map-at, mapAt-agree, mapAt-kept, mapAt-one-kept}
-use Rattle.tables.specs.declared.{Name.Name, Ticket.Ticket, Program.Program, Pad.Pad, Tables.Tables}
-use Rattle.tables.specs.Names.{nameOf, eqName, free, noProgram, noPad}
-use Rattle.tables.specs.Lookup.{Sized, padAt, programAt, ticketsOf, lookup}
-use Rattle.tables.specs.Chains.{atOrUnder, chainHead}
-use Rattle.tables.specs.Change.{dropTicket, dropInProgram, dropInPad, dropTickets}
-use Rattle.tables.proofs.ByPlace.{ticketAt}
-use Rattle.chains.specs.Walk.{endFrom, leadsTo}
-use Rattle.pads.specs.OnePad.{withPad}
-use Rattle.pad_places.specs.Places.{numbersOf, placeIn, upsOf}
-use Rattle.under.specs.Cleared.{goes, clearAt, clearIn, clearPad}
-use Rattle.under.specs.Linked.{Linked, OnPad}
-use Rattle.under.proofs.Laws.{at-itself}
+use lib.ListN.{length, getD}
+use borrow.Author.Tests.{eq-eqb, ne-eqb, leb-true, le-leb, ltb-true, lt-ltb}
+use Rattle.lists.proofs.Tests.{contradiction, and-intro}
+use Rattle.lists.proofs.PartLaws.{getD-tabulate}
+use Rattle.tables.specs.declared.{Name.Name, Tables.Tables}
+use Rattle.tables.specs.Kinds.{isLive, isHead}
+use Rattle.tables.specs.Names.{nameOf, eqName}
+use Rattle.tables.specs.Lookup.{Sized, ticketsOf, lookup, ticketIn}
+use Rattle.tables.specs.Chains.{atOrUnder}
+use Rattle.tables.specs.Change.{dropTickets}
+use Rattle.tables.proofs.KindLaws.{live-head}
+use Rattle.tables.proofs.ByPlace.{ticketAt, name-in-range}
+use Rattle.image.specs.Image.{decode}
+use Rattle.index.specs.Places.{placed, nameAt}
+use Rattle.lookup.proofs.Laws.{decoded-sized}
+use Rattle.in_place.specs.Shows.{Holds}
+use Rattle.pad_places.specs.Places.{onPad}
+use Rattle.pad_places.proofs.Rows.{on-pad}
+use Rattle.clearing.specs.Cleared.{isMarked, within, Cleared}
+use Rattle.under.specs.Marks.{goes, underOn, markOf, marksOf}
+use Rattle.under.specs.Docked.{dockedWith, dockedTo, dockedOn, Heads}
+use Rattle.under.specs.Linked.{Linked}
+use Rattle.clearing.proofs.Laws.{is-within, holds-dropped}
 use Rattle.under.proofs.Names.{live-named, own-index}
-use Rattle.under.proofs.Walks.{ups, ups-64, place, Here, here-at, place-low, name-marks, leads, ends, Away, name-missed, far, ends-missed}
-use Rattle.tables.specs.Kinds.{isLive}
+use Rattle.under.proofs.Walks.{place, Here, here-at, name-marks, leads, Away, name-missed, far}
 
--- a ticket that the test does not pick, or that is not there, stays
-pick : (a b c : Bool) (k : Ticket) → (a ≡ true → b ≡ c) → cond (a && b) free k ≡ cond (a && c) free k
-pick true b c k h = ap (λ (d : Bool). cond d free k) (h refl)
-pick false b c k h = refl
+-- a live ticket goes by its mark where places are marked, and stays elsewhere
+picks : (w l m n : Bool) → (l ≡ true → w ≡ true → m ≡ n) → (l ≡ true → w ≡ false → n ≡ false) → (w && (l && m)) ≡ (l && n)
+picks true true m n here elsewhere = here refl refl
+picks true false m n here elsewhere = refl
+picks false true m n here elsewhere = sym (elsewhere refl refl)
+picks false false m n here elsewhere = refl
 
-stays : (a b : Bool) (k : Ticket) → (a ≡ true → b ≡ false) → cond (a && b) free k ≡ k
-stays true b k h = ap (λ (d : Bool). cond d free k) (h refl)
-stays false b k h = refl
+is-mark : (b : Bool) → eqb (markOf b) 1 ≡ b
+is-mark true = refl
+is-mark false = refl
 
-module _ (t : Tables) (z : Sized t) (link : Linked t) (a : ℕ) (low : a < 4) where
-  module _ (gone : Name → Bool) (test : ℕ → Bool) (same : (n : Name) → Here t z link a low n → test (place t z link a low n) ≡ gone n)
-      (none : (n : Name) → Away t z link a low n → gone n ≡ false) where
-    -- ---- on the pad
-    own-place : (b i : ℕ) → b < 8 → i < length (ticketsOf t a b) → isLive (ticketAt t a b i .kind) ≡ true
-        → gone (nameOf a b (ticketAt t a b i .number)) ≡ test (8 * b + i)
-    own-place b i c d l =
-        let n : Name = nameOf a b (ticketAt t a b i .number) in
-        let h : Here t z link a low n = record { pad = refl; live = live-named t a b i d l } in
-        sym (same n h) ∙ ap test (here-at t z link a low n h .here ∙ ap (λ (j : ℕ). 8 * b + j) (own-index t a b i d l (link .distinct a b low c)))
+mark-at : (test : ℕ → Bool) (i : ℕ) → i < 64 → eqb (getD (marksOf test) i 0) 1 ≡ test i
+unfolding marksOf
+mark-at test i h = ap (λ (m : ℕ). eqb m 1) (getD-tabulate 64 (λ j. markOf (test j)) i 0 h) ∙ is-mark (test i)
 
-    in-program : (b : ℕ) → b < 8 → dropInProgram gone a b (programAt t a b) ≡ clearIn test b (programAt t a b)
-    unfolding dropInProgram dropTicket clearIn clearAt
-    in-program b c =
-        ap (λ (l : List Ticket). record { tickets = l; last = programAt t a b .last })
-        (sym (map-at (dropTicket gone a b) 0 (ticketsOf t a b))
-        ∙ mapAt-agree free (λ i. dropTicket gone a b) (λ i. clearAt test (8 * b + i)) (ticketsOf t a b)
-        (λ i d. pick (isLive (ticketAt t a b i .kind)) (gone (nameOf a b (ticketAt t a b i .number))) (test (8 * b + i)) (ticketAt t a b i) (own-place b i c d)))
+-- the test by places agrees with the names on the pad's live tickets
+abbrev Agrees : Tables → ℕ → (ℕ → Bool) → (Name → Bool) → Type 0
+Agrees t a test names =
+    (b i : ℕ) → b < 8 → i < 8 → isLive (ticketAt t a b i .kind) ≡ true → test (8 * b + i) ≡ names (nameOf a b (ticketAt t a b i .number))
 
-    on-pad : dropInPad gone a (padAt t a) ≡ clearPad test (padAt t a)
-    unfolding dropInPad clearPad
-    on-pad =
-        ap (λ (l : List Program). record { programs = l })
-        (mapAt-agree noProgram (dropInProgram gone a) (clearIn test) (padAt t a .programs) (λ b c. in-program b (omega (arith, c, z .programs a low))))
+-- the names pick no live ticket of another pad
+abbrev Spares : Tables → ℕ → (Name → Bool) → Type 0
+Spares t a names = (n : Name) → (n .pad ≡ a → ⊥) → isLive (lookup t n .kind) ≡ true → names n ≡ false
 
-    -- ---- on another pad
-    other-program : (p b : ℕ) → (p ≡ a → ⊥) → dropInProgram gone p b (programAt t p b) ≡ programAt t p b
-    unfolding dropInProgram dropTicket
-    other-program p b ne =
-        ap (λ (l : List Ticket). record { tickets = l; last = programAt t p b .last })
-        (sym (map-at (dropTicket gone p b) 0 (ticketsOf t p b))
-        ∙ mapAt-kept free (λ i. dropTicket gone p b) (ticketsOf t p b)
-        (λ i d. stays (isLive (ticketAt t p b i .kind)) (gone (nameOf p b (ticketAt t p b i .number))) (ticketAt t p b i)
-        (λ l. none (nameOf p b (ticketAt t p b i .number)) (record { pad = ne; live = live-named t p b i d l }))))
+module _ (before after marks : List ℕ) (a : ℕ) (c : Cleared (64 * a) 64 (λ p. isMarked marks (p - 64 * a)) before after) where
+  abbrev t : Tables
+  t = decode before
 
-    other-pad : (p : ℕ) → (p ≡ a → ⊥) → dropInPad gone p (padAt t p) ≡ padAt t p
-    unfolding dropInPad
-    other-pad p ne =
-        ap (λ (l : List Program). record { programs = l })
-        (mapAt-kept noProgram (dropInProgram gone p) (padAt t p .programs) (λ b c. other-program p b ne))
-
-    removed : dropTickets gone t ≡ withPad t a (clearPad test (padAt t a))
-    unfolding dropTickets
-    removed =
-        ap (λ (l : List Pad). record { pads = l; entries = t .entries })
-        (mapAt-one-kept noPad (dropInPad gone) a (t .pads) (λ p c ne. other-pad p ne) ∙ ap (set (t .pads) a) on-pad)
-
-  -- ---- `also`, x and all under x
-  pub removed-under : (also x : Name) → also .pad ≡ a → x .pad ≡ a
-      → withPad t a (clearPad (goes (ups t z link a low) (place t z link a low also) (place t z link a low x)) (padAt t a))
-      ≡ dropTickets (λ n. eqName n also || atOrUnder t x n) t
-  unfolding goes
-  removed-under also x p q =
-      sym (removed (λ n. eqName n also || atOrUnder t x n)
-      (λ i. eqb i (place t z link a low also) || leadsTo 64 (ups t z link a low) (place t z link a low x) i)
-      (λ n h i. name-marks t z link a low also p n h i || leads t z link a low 64 n h (place t z link a low x) x (name-marks t z link a low x q) i)
-      (λ n h i. name-missed t z link a low also p n h i || far t z link a low 64 n h x (name-missed t z link a low x q) i))
-
-  -- ---- the head of n's chain and all under it
-  pub removed-head : (n : Name) → Here t z link a low n
-      → withPad t a (clearPad (goes (ups t z link a low) (endFrom 64 (ups t z link a low) (place t z link a low n)) (endFrom 64 (ups t z link a low) (place t z link a low n))) (padAt t a))
-      ≡ dropTickets (atOrUnder t (chainHead t n)) t
-  unfolding goes
-  removed-head n h =
-      let head : ℕ = endFrom 64 (ups t z link a low) (place t z link a low n) in
-      sym (removed (atOrUnder t (chainHead t n)) (λ i. eqb i head || leadsTo 64 (ups t z link a low) head i)
-      (λ m g. (λ i. ends t z link a low 64 n h m g i || leads t z link a low 64 m g head (chainHead t n) (ends t z link a low 64 n h) i) ∙ at-itself t (chainHead t n) m)
-      (λ m g. far t z link a low 64 m g (chainHead t n) (ends-missed t z link a low 64 n (h .pad))))
-
--- ---- the same, of what the code has written and found
-module _ (t : Tables) (a : ℕ) (p : Pad) (on : OnPad t a p) (numbers up : List ℕ) (e : numbers ≡ numbersOf p) (f : up ≡ upsOf numbers p) where
   z : Sized t
-  z = on .sized
+  z = decoded-sized before
 
-  link : Linked t
-  link = on .linked
+  module _ (test : ℕ → Bool) (e : marks ≡ marksOf test) (names : Name → Bool) (agrees : Agrees t a test names) (spares : Spares t a names) where
+    module _ (p : ℕ) (h : p < 256) (l : isLive (placed t p .kind) ≡ true) where
+      on-the-pad : p / 64 ≡ a → eqb (getD marks (p - 64 * a) 0) 1 ≡ names (nameAt p (placed t p))
+      on-the-pad q =
+          let b : ℕ = p / 8 % 8 in
+          let j : p - 64 * a ≡ 8 * b + p % 8 = omega (arith, q) in
+          ap (λ (m : List ℕ). eqb (getD m (p - 64 * a) 0) 1) e ∙ mark-at test (p - 64 * a) (omega (arith, q)) ∙ ap test j
+          ∙ subst (λ (m : ℕ). isLive (ticketAt t m b (p % 8) .kind) ≡ true → test (8 * b + p % 8) ≡ names (nameOf m b (ticketAt t m b (p % 8) .number))) (sym q)
+          (agrees b (p % 8) (omega arith) (omega arith)) l
 
-  low : a < 4
-  low = on .low
+      on-another : (p / 64 ≡ a → ⊥) → names (nameAt p (placed t p)) ≡ false
+      on-another ne =
+          let d : p % 8 < length (ticketsOf t (p / 64) (p / 8 % 8)) = omega (arith, z .tickets (p / 64) (p / 8 % 8) (omega (arith, h)) (omega arith)) in
+          spares (nameAt p (placed t p)) ne (live-named t (p / 64) (p / 8 % 8) (p % 8) d l)
 
-  numbered : numbers ≡ numbersOf (padAt t a)
-  numbered = e ∙ ap numbersOf (sym (on .here))
+    by-marks : (p : ℕ) → p < 256
+        → (within (64 * a) 64 p && isMarked marks (p - 64 * a) (placed t p)) ≡ (isLive (placed t p .kind) && names (nameAt p (placed t p)))
+    by-marks p h =
+        picks (within (64 * a) 64 p) (isLive (placed t p .kind)) (eqb (getD marks (p - 64 * a) 0) 1) (names (nameAt p (placed t p)))
+        (λ l w.
+        let i = is-within (64 * a) 64 p w in
+        on-the-pad p h l (omega (arith, leb-true (64 * a) p (i .low), ltb-true p (64 * a + 64) (i .high))))
+        (λ l w.
+        on-another p h l
+        (λ q. contradiction (and-intro (le-leb (64 * a) p (omega (arith, q))) (lt-ltb p (64 * a + 64) (omega (arith, q)))) w))
 
-  written : up ≡ ups t z link a low
-  written = f ∙ λ m. upsOf (numbered m) (sym (on .here) m)
+    holds-unmarked : Holds after (dropTickets names t)
+    holds-unmarked = holds-dropped (64 * a) (λ p. isMarked marks (p - 64 * a)) before 64 after c names by-marks
 
-  found : (n : Name) (i : ℕ) → i ≡ placeIn numbers (n .program) (n .number) → i ≡ place t z link a low n
-  found n i g = g ∙ ap (λ (l : List ℕ). placeIn l (n .program) (n .number)) numbered
+-- ---- live tickets of a pad, where numbers are distinct
+module _ (t : Tables) (z : Sized t) (link : Linked t) (a : ℕ) (low : a < 4) where
+  module _ (b i : ℕ) (b8 : b < 8) (i8 : i < 8) (l : isLive (ticketAt t a b i .kind) ≡ true) where
+    there : i < length (ticketsOf t a b)
+    there = omega (arith, i8, z .tickets a b low b8)
 
-  pub under-removed : (also x : Name) → also .pad ≡ a → x .pad ≡ a → (i j : ℕ) → i ≡ placeIn numbers (also .program) (also .number)
-      → j ≡ placeIn numbers (x .program) (x .number) → (r : Pad) → r ≡ clearPad (goes up i j) p
-      → withPad t a r ≡ dropTickets (λ n. eqName n also || atOrUnder t x n) t
-  under-removed also x b c i j g h r k =
-      ap (withPad t a) (k ∙ λ m. clearPad (goes (written m) (found also i g m) (found x j h m)) (sym (on .here) m))
-      ∙ removed-under t z link a low also x b c
+    abbrev itsName : Name
+    itsName = nameOf a b (ticketAt t a b i .number)
 
-  pub found-low : (n : Name) → n .pad ≡ a → isLive (lookup t n .kind) ≡ true → (i : ℕ) → i ≡ placeIn numbers (n .program) (n .number) → i < 64
-  found-low n b l i g = omega (arith, place-low t z link a low n (record { pad = b; live = l }), found n i g)
+    its-own : Here t z link a low itsName
+    its-own = record { pad = refl; live = live-named t a b i there l }
 
-  pub head-removed : (n : Name) → n .pad ≡ a → isLive (lookup t n .kind) ≡ true → (i : ℕ) → i ≡ placeIn numbers (n .program) (n .number)
-      → (j : ℕ) → j ≡ endFrom 64 up i → (r : Pad) → r ≡ clearPad (goes up j j) p → withPad t a r ≡ dropTickets (atOrUnder t (chainHead t n)) t
-  head-removed n b l i g j h r k =
-      let head : j ≡ endFrom 64 (ups t z link a low) (place t z link a low n) = h ∙ λ m. endFrom 64 (written m) (found n i g m) in
-      ap (withPad t a) (k ∙ λ m. clearPad (goes (written m) (head m) (head m)) (sym (on .here) m))
-      ∙ removed-head t z link a low n (record { pad = b; live = l })
+    its-place : place t z link a low itsName ≡ 8 * b + i
+    its-place =
+        here-at t z link a low itsName its-own .here ∙ ap (λ (j : ℕ). 8 * b + j) (own-index t a b i there l (link .distinct a b low b8))
+
+    its-ticket : lookup t itsName ≡ ticketAt t a b i
+    unfolding lookup ticketIn
+    its-ticket = ap (λ (j : ℕ). ticketAt t a b j) (own-index t a b i there l (link .distinct a b low b8))
+
+-- ---- `also`, x and all under x
+module _ (t : Tables) (z : Sized t) (link : Linked t) (also x : Name) (low : x .pad < 4) (beside : also .pad ≡ x .pad) where
+  under-agrees : Agrees t (x .pad) (underOn t also x) (λ n. eqName n also || atOrUnder t x n)
+  unfolding underOn goes
+  under-agrees b i b8 i8 l =
+      let n : Name = itsName t z link (x .pad) low b i b8 i8 l in
+      let h : Here t z link (x .pad) low n = its-own t z link (x .pad) low b i b8 i8 l in
+      ap (underOn t also x) (sym (its-place t z link (x .pad) low b i b8 i8 l))
+      ∙ (λ j. name-marks t z link (x .pad) low also beside n h j
+      || leads t z link (x .pad) low 64 n h (place t z link (x .pad) low x) x (name-marks t z link (x .pad) low x refl) j)
+
+  under-spares : Spares t (x .pad) (λ n. eqName n also || atOrUnder t x n)
+  under-spares n ne l =
+      let h : Away t z link (x .pad) low n = record { pad = ne; live = l } in
+      λ j. name-missed t z link (x .pad) low also beside n h j || far t z link (x .pad) low 64 n h x (name-missed t z link (x .pad) low x refl) j
+
+pub under-removed : (before after marks : List ℕ) → Linked (decode before) → (also x : Name) → x .pad < 4 → also .pad ≡ x .pad
+    → marks ≡ marksOf (underOn (decode before) also x) → (pad : ℕ) → pad ≡ x .pad
+    → Cleared (64 * pad) 64 (λ p. isMarked marks (p - 64 * pad)) before after
+    → Holds after (dropTickets (λ n. eqName n also || atOrUnder (decode before) x n) (decode before))
+under-removed before after marks link also x low beside e pad q c =
+    holds-unmarked before after marks (x .pad)
+    (subst (λ (a : ℕ). Cleared (64 * a) 64 (λ p. isMarked marks (p - 64 * a)) before after) q c) (underOn (decode before) also x) e
+    (λ n. eqName n also || atOrUnder (decode before) x n)
+    (under-agrees (decode before) (decoded-sized before) link also x low beside) (under-spares (decode before) (decoded-sized before) link also x low beside)
+
+-- ---- the head of a chain and all under it
+module _ (t : Tables) (z : Sized t) (link : Linked t) (heads : Heads t) (h : Name) (is : isHead (lookup t h .kind) ≡ true) where
+  pub head-low : h .pad < 4
+  head-low = name-in-range t z h (live-head (lookup t h .kind) is) .pad
+
+  head-agrees : Agrees t (h .pad) (dockedOn t h) (atOrUnder t h)
+  unfolding dockedOn dockedTo
+  head-agrees b i b8 i8 l =
+      let n : Name = itsName t z link (h .pad) head-low b i b8 i8 l in
+      let m : (8 * b + i) / 8 ≡ b = omega (arith, i8) in
+      let k : onPad t (h .pad) (8 * b + i) ≡ lookup t n = on-pad t (h .pad) b i b8 i8 ∙ sym (its-ticket t z link (h .pad) head-low b i b8 i8 l) in
+      (λ j. dockedWith t h (nameOf (h .pad) (m j) 0) (k j))
+      ∙ sym (heads .under h n is (its-own t z link (h .pad) head-low b i b8 i8 l .live) ∙ ap (λ (v : Bool). v && dockedTo t h n) (eq-eqb (h .pad) (h .pad) refl))
+
+  head-spares : Spares t (h .pad) (atOrUnder t h)
+  head-spares n ne l = heads .under h n is l ∙ ap (λ (v : Bool). v && dockedTo t h n) (ne-eqb (n .pad) (h .pad) ne)
+
+pub head-removed : (before after marks : List ℕ) → Linked (decode before) → Heads (decode before) → (h : Name) → isHead (lookup (decode before) h .kind) ≡ true
+    → marks ≡ marksOf (dockedOn (decode before) h) → (pad : ℕ) → pad ≡ h .pad
+    → Cleared (64 * pad) 64 (λ p. isMarked marks (p - 64 * pad)) before after
+    → Holds after (dropTickets (atOrUnder (decode before) h) (decode before))
+head-removed before after marks link heads h is e pad q c =
+    holds-unmarked before after marks (h .pad)
+    (subst (λ (a : ℕ). Cleared (64 * a) 64 (λ p. isMarked marks (p - 64 * a)) before after) q c) (dockedOn (decode before) h) e
+    (atOrUnder (decode before) h)
+    (head-agrees (decode before) (decoded-sized before) link heads h is) (head-spares (decode before) (decoded-sized before) link heads h is)

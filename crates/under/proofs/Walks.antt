@@ -2,28 +2,25 @@
 -- stay on their pad.
 use Prim.Native.Nat.{ℕ, zero, suc, _<_}
 use native.Mathlib.Omega.{arith}
-use mathlib.Core.Path.{_≡_, refl, sym, ap, subst, _∙_}
-use mathlib.Core.Bool.{Bool, true, false, not, _&&_, _||_, cond}
+use mathlib.Core.Path.{_≡_, refl, sym, ap, _∙_}
+use mathlib.Core.Bool.{Bool, true, false, not, _&&_, _||_}
 use mathlib.Core.List.{List}
 use lib.Dec.{eqb, ltb}
-use lib.ListN.{length, getD, List·getD-map}
-use borrow.Author.Tests.{eqb-true, ne-eqb, lt-ltb, le-ltb}
+use lib.ListN.{length, getD}
+use borrow.Author.Tests.{eqb-true, lt-ltb, le-ltb}
 use Rattle.lists.proofs.Tests.{Case, pass, fail, case}
-use Rattle.lists.proofs.Reading.{any-default}
 use Rattle.tables.specs.declared.{Name.Name, Kind.Kind, Ticket.Ticket, Tables.Tables}
 use Rattle.tables.specs.declared.Kind.the-variants.{Free, Taken, Received, Child, Recall}
-use Rattle.tables.specs.Names.{eqName, noName, isNone, free, noProgram}
-use Rattle.tables.specs.Lookup.{Sized, padAt, ticketsOf, lookup}
-use Rattle.tables.specs.Chains.{parentBy, parentOf, reaches, endOf}
+use Rattle.tables.specs.Names.{eqName, isNone}
+use Rattle.tables.specs.Lookup.{Sized, lookup}
+use Rattle.tables.specs.Chains.{parentBy, parentOf, reaches}
 use Rattle.tables.proofs.NameLaws.{eqName-false}
-use Rattle.chains.specs.Walk.{parentAt, hasParent, endFrom, leadsTo}
-use Rattle.pads.proofs.Laws.{other-pad}
-use Rattle.pad_places.specs.Places.{numbersOf, placeIn, upBy, upOf, upsIn, upsOf}
+use Rattle.chains.specs.Walk.{parentAt, hasParent, leadsTo}
+use Rattle.pad_places.specs.Places.{numbersOf, placeIn, upBy, upOf, upsOf}
 use Rattle.pad_places.proofs.Places.{place-none}
-use Rattle.pad_places.proofs.Rows.{spread-at}
-use Rattle.pad_places.proofs.PadRows.{PadSized, up-rows, ups-long}
+use Rattle.pad_places.proofs.Rows.{ups-long, up-there}
 use Rattle.under.specs.Linked.{Linked}
-use Rattle.under.proofs.Names.{sized, at, index, at-test, found-on, LiveAt, live-at}
+use Rattle.under.proofs.Names.{at, index, at-test, found-on, LiveAt, live-at}
 use Rattle.tables.specs.Kinds.{isLive}
 
 -- ---- Bools
@@ -54,10 +51,10 @@ up-parent Recall numbers n k = refl
 module _ (t : Tables) (z : Sized t) (link : Linked t) (a : ℕ) (low : a < 4) where
   -- the places of parents on the pad
   abbrev pub ups : List ℕ
-  ups = upsOf (numbersOf (padAt t a)) (padAt t a)
+  ups = upsOf t a (numbersOf t a)
 
   pub ups-64 : length ups ≡ 64
-  ups-64 = ups-long (padAt t a) (sized t z a low) (numbersOf (padAt t a))
+  ups-64 = ups-long t a (numbersOf t a)
 
   abbrev pub place : Name → ℕ
   place n = at t z a low n
@@ -77,24 +74,17 @@ module _ (t : Tables) (z : Sized t) (link : Linked t) (a : ℕ) (low : a < 4) wh
   parent-here : (n : Name) → Here n → isNone (parentOf (lookup t) n) ≡ false → Here (parentOf (lookup t) n)
   parent-here n h e = record { pad = link .near n e ∙ h .pad; live = link .parent n e }
 
-  ticket-up : (n : Name) → upOf (numbersOf (padAt t a)) (n .program) (lookup t n) ≡ place (parentOf (lookup t) n)
+  ticket-up : (n : Name) → upOf (numbersOf t a) (n .program) (lookup t n) ≡ place (parentOf (lookup t) n)
   unfolding upOf
-  ticket-up n = up-parent (lookup t n .kind) (numbersOf (padAt t a)) n (lookup t n)
+  ticket-up n = up-parent (lookup t n .kind) (numbersOf t a) n (lookup t n)
 
   parent-at : (n : Name) → Here n → parentAt ups (place n) ≡ place (parentOf (lookup t) n)
-  unfolding upsOf
   parent-at n h =
       let b : ℕ = n .program in
-      let i : ℕ = index t z a low (n .program) (n .number) in
       let w : LiveAt t z a low n = here-at n h in
-      let s : PadSized (padAt t a) = sized t z a low in
-      let none : ℕ = upOf (numbersOf (padAt t a)) b free in
-      any-default ups (place n) 0 none (omega (arith, place-low n h, ups-64))
-      ∙ ap (λ (j : ℕ). getD ups j none) (w .here)
-      ∙ spread-at (upsIn (numbersOf (padAt t a))) noProgram (padAt t a .programs) (up-rows (padAt t a) s (numbersOf (padAt t a))) b
-      (omega (arith, w .program, s .programs)) i none (w .below)
-      ∙ List·getD-map (upOf (numbersOf (padAt t a)) b) (ticketsOf t a b) i free
-      ∙ ap (upOf (numbersOf (padAt t a)) b) (sym (found-on t z a low n (h .pad)))
+      ap (λ (j : ℕ). getD ups j 0) (w .here)
+      ∙ up-there t a b (index t z a low b (n .number)) (w .program) (w .below) (numbersOf t a)
+      ∙ ap (upOf (numbersOf t a) b) (sym (found-on t z a low n (h .pad)))
       ∙ ticket-up n
 
   parent-test : (n : Name) → Here n → hasParent ups (place n) ≡ not (isNone (parentOf (lookup t) n))
@@ -103,7 +93,7 @@ module _ (t : Tables) (z : Sized t) (link : Linked t) (a : ℕ) (low : a < 4) wh
       go : Case (isNone (parentOf (lookup t) n)) → ltb (place (parentOf (lookup t) n)) (length ups) ≡ not (isNone (parentOf (lookup t) n))
       go (pass e) =
           let p : 64 ≡ place (parentOf (lookup t) n)
-          = place-none (numbersOf (padAt t a)) (parentOf (lookup t) n .program) (parentOf (lookup t) n .number) (eqb-true (parentOf (lookup t) n .number) 0 e) in
+          = place-none (numbersOf t a) (parentOf (lookup t) n .program) (parentOf (lookup t) n .number) (eqb-true (parentOf (lookup t) n .number) 0 e) in
           le-ltb (place (parentOf (lookup t) n)) (length ups) (omega (arith, p, ups-64)) ∙ ap not (sym e)
       go (fail e) =
           lt-ltb (place (parentOf (lookup t) n)) (length ups) (omega (arith, place-low (parentOf (lookup t) n) (parent-here n h e), ups-64)) ∙ ap not (sym e)
@@ -125,27 +115,6 @@ module _ (t : Tables) (z : Sized t) (link : Linked t) (a : ℕ) (low : a < 4) wh
       (k n h) (parent-test n h)
       (λ e. ap (leadsTo left ups i) (parent-at n h) ∙ leads left (parentOf (lookup t) n) (parent-here n h (not-back (isNone (parentOf (lookup t) n)) e)) i x k)
 
-  -- no live ticket is named by the number 0
-  none-marks : Marks (length ups) noName
-  none-marks m h =
-      ne-eqb (place m) (length ups) (λ e. omega (arith, e, place-low m h, ups-64))
-      ∙ sym (eqName-false m noName (λ e. omega (arith, link .numbered m (h .live), ap (λ (x : Name). x .number) e)))
-
-  pub ends : (left : ℕ) (n : Name) → Here n → Marks (endFrom left ups (place n)) (endOf left (parentOf (lookup t)) n)
-  unfolding endFrom endOf
-  ends zero n h = none-marks
-  ends (suc left) n h =
-      subst (λ (b : Bool). Marks (cond b (endFrom left ups (parentAt ups (place n))) (place n)) (cond (isNone (parentOf (lookup t) n)) n (endOf left (parentOf (lookup t)) (parentOf (lookup t) n))))
-      (sym (parent-test n h))
-      (go (case (isNone (parentOf (lookup t) n))) (λ e. ends left (parentOf (lookup t) n) (parent-here n h e)))
-    where
-      go : Case (isNone (parentOf (lookup t) n))
-          → (isNone (parentOf (lookup t) n) ≡ false → Marks (endFrom left ups (place (parentOf (lookup t) n))) (endOf left (parentOf (lookup t)) (parentOf (lookup t) n)))
-          → Marks (cond (not (isNone (parentOf (lookup t) n))) (endFrom left ups (parentAt ups (place n))) (place n))
-          (cond (isNone (parentOf (lookup t) n)) n (endOf left (parentOf (lookup t)) (parentOf (lookup t) n)))
-      go (pass e) ih = rw e (name-marks n (h .pad))
-      go (fail e) ih = rw (e, parent-at n h) (ih e)
-
   -- ---- other pads
   pub record Away (n : Name) : Type 0 where
     pub pad : n .pad ≡ a → ⊥
@@ -156,7 +125,7 @@ module _ (t : Tables) (z : Sized t) (link : Linked t) (a : ℕ) (low : a < 4) wh
   Missed x = (m : Name) → Away m → eqName m x ≡ false
 
   pub name-missed : (x : Name) → x .pad ≡ a → Missed x
-  name-missed x e m h = other-pad m x (λ q. h .pad (q ∙ e))
+  name-missed x e m h = eqName-false m x (λ q. h .pad (ap (λ (y : Name). y .pad) q ∙ e))
 
   pub far : (left : ℕ) (n : Name) → Away n → (x : Name) → Missed x → reaches left (parentOf (lookup t)) n x ≡ false
   unfolding reaches
@@ -164,14 +133,3 @@ module _ (t : Tables) (z : Sized t) (link : Linked t) (a : ℕ) (low : a < 4) wh
   far (suc left) n h x k =
       walk-none (eqName n x) (isNone (parentOf (lookup t) n)) (reaches left (parentOf (lookup t)) (parentOf (lookup t) n) x) (k n h)
       (λ e. far left (parentOf (lookup t) n) (record { pad = λ q. h .pad (sym (link .near n e) ∙ q); live = link .parent n e }) x k)
-
-  pub ends-missed : (left : ℕ) (n : Name) → n .pad ≡ a → Missed (endOf left (parentOf (lookup t)) n)
-  unfolding endOf
-  ends-missed zero n p = λ m h. eqName-false m noName (λ e. omega (arith, link .numbered m (h .live), ap (λ (x : Name). x .number) e))
-  ends-missed (suc left) n p =
-      go (case (isNone (parentOf (lookup t) n))) (λ e. ends-missed left (parentOf (lookup t) n) (link .near n e ∙ p))
-    where
-      go : Case (isNone (parentOf (lookup t) n)) → (isNone (parentOf (lookup t) n) ≡ false → Missed (endOf left (parentOf (lookup t)) (parentOf (lookup t) n)))
-          → Missed (cond (isNone (parentOf (lookup t) n)) n (endOf left (parentOf (lookup t)) (parentOf (lookup t) n)))
-      go (pass e) ih = rw e (name-missed n p)
-      go (fail e) ih = rw e (ih e)

@@ -1,2 +1,3 @@
-pub mod Cleared
+pub mod Docked
 pub mod Linked
+pub mod Marks

@@ -3,10 +3,10 @@ use Prim.Native.Nat.{ℕ, _≤_, _<_}
 use mathlib.Core.Path.{_≡_}
 use mathlib.Core.Bool.{true, false}
 use Rattle.lists.proofs.Keyed.{Distinct}
-use Rattle.tables.specs.declared.{Name.Name, Pad.Pad, Tables.Tables}
+use Rattle.tables.specs.declared.{Name.Name, Tables.Tables}
 use Rattle.tables.specs.Kinds.{isLive}
 use Rattle.tables.specs.Names.{isNone}
-use Rattle.tables.specs.Lookup.{Sized, padAt, ticketsOf, lookup}
+use Rattle.tables.specs.Lookup.{ticketsOf, lookup}
 use Rattle.tables.specs.Chains.{parentOf}
 use Rattle.tables.proofs.Keys.{ticketKeys}
 
@@ -17,10 +17,3 @@ pub record Linked (t : Tables) : Type 0 where
   -- T3, T6: a parent is live, and on the same pad
   pub parent : (n : Name) → isNone (parentOf (lookup t) n) ≡ false → isLive (lookup t (parentOf (lookup t) n) .kind) ≡ true
   pub near : (n : Name) → isNone (parentOf (lookup t) n) ≡ false → parentOf (lookup t) n .pad ≡ n .pad
-
--- p is one of the pads of such tables
-pub record OnPad (t : Tables) (pad : ℕ) (p : Pad) : Type 0 where
-  pub sized : Sized t
-  pub linked : Linked t
-  pub low : pad < 4
-  pub here : padAt t pad ≡ p

@@ -1,154 +1,170 @@
--- The outer loop is at a turn of the queue (`Turns`), the inner one at a place of the entries (`Turn`).
-use Prim.Native.Nat.{ℕ, _-_}
+-- The outer loop is at a turn of the queue (`Going`), the inner one at a place of the entries (`Turning`): from what held where a loop began
+-- follows what holds now, whatever the image was before.
+use Prim.Native.Nat.{ℕ, _-_, _≤_, _<_}
 use native.Mathlib.Omega.{arith}
 use mathlib.Core.Path.{_≡_, refl, sym, _∙_}
-use lib.ListN.{replicate, length-replicate}
+use mathlib.Core.Bool.{true}
+use mathlib.Core.List.{List}
+use lib.ListN.{getD}
 use borrow.Author.Needs.{needs}
-use Rattle.below.proofs.Queue.{tail-low}
-use Rattle.below.proofs.Turns.{Turn, Turns, turn-none, turn-kept, turn-room, turn-gone, turns-more, drop-none, drop-begins, drop-ends}
+use Rattle.tables.specs.Names.{noName}
+use Rattle.image.specs.Image.{isImage}
+use Rattle.image.proofs.RoundTrip.{image-whole}
+use Rattle.below.proofs.InImage.{Going, going-more, nothing-gone, going-begins, going-ends}
+use Rattle.below.proofs.InImage.{Turning, turning-none, turning-kept, turning-room, turning-gone}
 use Rattle.below.proofs.drop_below.Statement.{statement}
 use Rattle.below.proofs.drop_below.Tie as tie
 
 abbrev Inv-loop2 : tie.InvT-loop2
-Inv-loop2 es at none u₀ queue₀ tail₀ head place n i₀ u queue tail i = Turn es u at queue tail head n i
+Inv-loop2 image₀ at none queue₀ tail₀ head n i₀ image queue tail i =
+    (isImage image ≡ true) × (tail ≤ 256)
+    × ((bytes : List ℕ) → Going bytes at image₀ queue₀ tail₀ head → head < tail₀ → n ≡ getD queue₀ head noName → Turning bytes at image queue tail head n i)
 
 abbrev μ-loop2 : tie.MeasureT-loop2
-μ-loop2 es at none u₀ queue₀ tail₀ head place n i₀ u queue tail i = 256 - i
+μ-loop2 image₀ at none queue₀ tail₀ head n i₀ image queue tail i = 256 - i
 
 abbrev Inv-loop : tie.InvT-loop
-Inv-loop es at none u₀ queue₀ tail₀ head₀ u queue tail head = Turns es u at queue tail head
+Inv-loop image₀ at none queue₀ tail₀ head₀ image queue tail head =
+    (isImage image ≡ true) × (tail ≤ 256) × ((bytes : List ℕ) → Going bytes at image₀ queue₀ tail₀ head₀ → Going bytes at image queue tail head)
 
 abbrev μ-loop : tie.MeasureT-loop
-μ-loop es at none u₀ queue₀ tail₀ head₀ u queue tail head = 256 - head
+μ-loop image₀ at none queue₀ tail₀ head₀ image queue tail head = 256 - head
 
-place-of-requires : tie.Need-place-of-requires Inv-loop2 μ-loop2 Inv-loop μ-loop
-place-of-requires c κs = search needs
+entry-place-requires : tie.Need-entry-place-requires Inv-loop2 μ-loop2 Inv-loop μ-loop
+entry-place-requires c κs = image-whole (c .before .before .args .image .now) (c .before .before .pre .0)
+
+same-length : tie.Need-same-length Inv-loop2 μ-loop2 Inv-loop μ-loop
+same-length c = search needs
 
 returns : tie.Need-returns Inv-loop2 μ-loop2 Inv-loop μ-loop
 returns c =
-    let s = c .before .before in
-    let es = s .args .t1 in
-    let long = s .good .0 .1 .0 .1 in
-    drop-none es (s .args .x) (s .pre) long (c .before .place-of .ensures) (c .if1 .taken)
+    let s = c .before .before .before .before in
+    nothing-gone (s .args .image .now) (s .args .x) (s .pre .0) (s .pre .1) (c .before .entry-place .ensures) (c .if1 .taken)
 
 none-requires : tie.Need-none-requires Inv-loop2 μ-loop2 Inv-loop μ-loop
 none-requires c κs = search needs
 
-mul-u : tie.Need-mul-u Inv-loop2 μ-loop2 Inv-loop μ-loop
-mul-u c = search needs
-
-array-set-from-u : tie.Need-array-set-from-u Inv-loop2 μ-loop2 Inv-loop μ-loop
-array-set-from-u c = search needs
-
-array-write-queue : tie.Need-array-write-queue Inv-loop2 μ-loop2 Inv-loop μ-loop
-array-write-queue c = search needs
+put-entry-requires : tie.Need-put-entry-requires Inv-loop2 μ-loop2 Inv-loop μ-loop
+put-entry-requires c κs = search needs
 
 loop-holds : tie.Need-loop-holds Inv-loop2 μ-loop2 Inv-loop μ-loop
-loop-holds c =
-    let s = c .before .before .before in
-    let es = s .args .t1 in
-    let long = s .good .0 .1 .0 .1 in
-    let found = c .before .before .place-of .ensures in
-    let empty = length-replicate {A = ℕ} 256 0 in
-    drop-begins es (s .args .x) (s .pre) long found (c .before .if1 .left) (c .none .ensures) (replicate {A = ℕ} 256 0) empty
+loop-holds c = (c .before .before .put-entry .ensures .is, omega arith, λ bytes g. g)
 
-mul-place : tie.Need-mul-place Inv-loop2 μ-loop2 Inv-loop μ-loop
-mul-place c = omega (arith, tail-low (c .before .loop .inv .partly), c .loop-test .taken)
+mul-n : tie.Need-mul-n Inv-loop2 μ-loop2 Inv-loop μ-loop
+mul-n c = omega (arith, c .before .loop .inv .1, c .loop-test .taken)
 
-array-read-place : tie.Need-array-read-place Inv-loop2 μ-loop2 Inv-loop μ-loop
-array-read-place c = omega (arith, tail-low (c .before .loop .inv .partly), c .loop-test .taken)
-
-mul-above : tie.Need-mul-above Inv-loop2 μ-loop2 Inv-loop μ-loop
-mul-above c = omega (arith, c .before .loop .inv .partly .removed (c .before .loop .head) (c .loop-test .taken) .low)
-
-array-copy-out-above : tie.Need-array-copy-out-above Inv-loop2 μ-loop2 Inv-loop μ-loop
-array-copy-out-above c = c .before .loop .inv .partly .removed (c .before .loop .head) (c .loop-test .taken) .low
+array-copy-out-n : tie.Need-array-copy-out-n Inv-loop2 μ-loop2 Inv-loop μ-loop
+array-copy-out-n c = omega (arith, c .before .loop .inv .1, c .loop-test .taken)
 
 loop2-holds : tie.Need-loop2-holds Inv-loop2 μ-loop2 Inv-loop μ-loop
-loop2-holds c = turn-none (c .before .before .before .loop .inv) (c .before .before .loop-test .taken)
+loop2-holds c = (c .before .before .loop .inv .0, c .before .before .loop .inv .1, λ bytes g h e. turning-none g h)
 
 add-i : tie.Need-add-i Inv-loop2 μ-loop2 Inv-loop μ-loop
-add-i c = omega (arith, c .loop2-test .taken)
+add-i c = search needs
 
-mul-e : tie.Need-mul-e Inv-loop2 μ-loop2 Inv-loop μ-loop
-mul-e c = search needs
-
-array-copy-out-e : tie.Need-array-copy-out-e Inv-loop2 μ-loop2 Inv-loop μ-loop
-array-copy-out-e c = search needs
+entry-at-requires : tie.Need-entry-at-requires Inv-loop2 μ-loop2 Inv-loop μ-loop
+entry-at-requires c κs = (image-whole (c .before .before .loop2 .image) (c .before .before .loop2 .inv .0), c .before .loop2-test .taken)
 
 is-below-requires : tie.Need-is-below-requires Inv-loop2 μ-loop2 Inv-loop μ-loop
 is-below-requires c κs = search needs
 
-mul-u-2 : tie.Need-mul-u-2 Inv-loop2 μ-loop2 Inv-loop μ-loop
-mul-u-2 c = search needs
-
-array-set-from-u-2 : tie.Need-array-set-from-u-2 Inv-loop2 μ-loop2 Inv-loop μ-loop
-array-set-from-u-2 c = search needs
+put-entry-requires-2 : tie.Need-put-entry-requires-2 Inv-loop2 μ-loop2 Inv-loop μ-loop
+put-entry-requires-2 c κs = (c .before .before .before .before .before .before .loop2 .inv .0, c .before .before .before .before .before .loop2-test .taken)
 
 mul-queue : tie.Need-mul-queue Inv-loop2 μ-loop2 Inv-loop μ-loop
-mul-queue c =
-    let is = sym (c .before .is-below .ensures) ∙ c .if2 .taken in
-    omega (arith, turn-room (c .before .before .before .before .loop2 .inv) (c .before .before .before .loop2-test .taken) is)
+mul-queue c = omega (arith, c .before .before .before .before .before .before .before .before .before .before .loop2 .inv .1)
 
-array-write-queue-2 : tie.Need-array-write-queue-2 Inv-loop2 μ-loop2 Inv-loop μ-loop
-array-write-queue-2 c =
-    let is = sym (c .before .is-below .ensures) ∙ c .if2 .taken in
-    turn-room (c .before .before .before .before .loop2 .inv) (c .before .before .before .loop2-test .taken) is
+array-set-from-queue : tie.Need-array-set-from-queue Inv-loop2 μ-loop2 Inv-loop μ-loop
+array-set-from-queue c =
+    let tested = c .before .before .before .before .before in
+    let is = sym (tested .before .is-below .ensures) ∙ tested .if2 .taken in
+    let read = tested .before .before .entry-at .ensures in
+    let looked = tested .before .before .before .before in
+    let inner = looked .before in
+    let outer = inner .before .before .before in
+    let put = outer .before .before .before in
+    let found = put .before .before .before in
+    let s = found .before .before .before .before in
+    let bytes = s .args .image .now in
+    let begun
+    = going-begins bytes (s .args .x) (s .pre .0) (s .pre .1) (found .before .entry-place .ensures) (found .if1 .left)
+    (put .before .before .none .ensures) (put .put-entry .ensures) in
+    let going = outer .loop .inv .2 bytes begun in
+    let t = inner .loop2 .inv .2 bytes going (inner .before .before .loop-test .taken) refl in
+    turning-room t (looked .loop2-test .taken) read is
 
 add-tail : tie.Need-add-tail Inv-loop2 μ-loop2 Inv-loop μ-loop
-add-tail c =
-    let is = sym (c .before .is-below .ensures) ∙ c .if2 .taken in
-    omega (arith, turn-room (c .before .before .before .before .loop2 .inv) (c .before .before .before .loop2-test .taken) is)
+add-tail c = omega (arith, c .before .before .before .before .before .before .before .before .before .before .loop2 .inv .1)
 
 loop2-less : tie.Need-loop2-less Inv-loop2 μ-loop2 Inv-loop μ-loop
-loop2-less c = omega (arith, c .before .before .before .loop2-test .taken)
+loop2-less c = omega (arith, c .before .before .before .before .before .before .before .before .before .loop2-test .taken)
 
 loop2-again : tie.Need-loop2-again Inv-loop2 μ-loop2 Inv-loop μ-loop
 loop2-again c =
-    let s = c .before .before .before .before .before .before .before .before .before .before .before .before in
-    let es = s .args .t1 in
-    let long = s .good .0 .1 .0 .1 in
-    let k = c .before .before .before .before .loop2 .inv in
-    let none = c .before .before .before .before .before .before .before .before .before .none .ensures in
-    let is = sym (c .before .is-below .ensures) ∙ c .if2 .taken in
-    turn-gone k (s .pre) long none (c .before .before .before .loop2-test .taken) is
+    let tested = c .before .before .before .before .before in
+    let is = sym (tested .before .is-below .ensures) ∙ tested .if2 .taken in
+    let read = tested .before .before .entry-at .ensures in
+    let looked = tested .before .before .before .before in
+    let inner = looked .before in
+    let outer = inner .before .before .before in
+    let put = outer .before .before .before in
+    let found = put .before .before .before in
+    let s = found .before .before .before .before in
+    let bytes = s .args .image .now in
+    let begun
+    = going-begins bytes (s .args .x) (s .pre .0) (s .pre .1) (found .before .entry-place .ensures) (found .if1 .left)
+    (put .before .before .none .ensures) (put .put-entry .ensures) in
+    let going = outer .loop .inv .2 bytes begun in
+    let t = inner .loop2 .inv .2 bytes going (inner .before .before .loop-test .taken) refl in
+    let low = looked .loop2-test .taken in
+    let none = put .before .before .none .ensures in
+    let room : inner .loop2 .tail < 256 = turning-room t low read is in (
+      c .before .before .before .put-entry2 .ensures .is,
+      omega (arith, room),
+      λ bytes g h e. turning-gone (inner .loop2 .inv .2 bytes g h e) low read is none (c .before .before .before .put-entry2 .ensures),
+    )
 
 loop2-less-2 : tie.Need-loop2-less-2 Inv-loop2 μ-loop2 Inv-loop μ-loop
-loop2-less-2 c = omega (arith, c .before .before .before .loop2-test .taken)
+loop2-less-2 c = omega (arith, c .before .before .before .before .loop2-test .taken)
 
 loop2-again-2 : tie.Need-loop2-again-2 Inv-loop2 μ-loop2 Inv-loop μ-loop
 loop2-again-2 c =
-    let k = c .before .before .before .before .loop2 .inv in
+    let inner = c .before .before .before .before .before .loop2 in
     let is-not = sym (c .before .is-below .ensures) ∙ c .if2 .left in
-    turn-kept k (c .before .before .before .loop2-test .taken) is-not
+    let low = c .before .before .before .before .loop2-test .taken in
+    let read = c .before .before .entry-at .ensures in
+    (inner .inv .0, inner .inv .1, λ bytes g h e. turning-kept (inner .inv .2 bytes g h e) low read is-not)
 
 add-head : tie.Need-add-head Inv-loop2 μ-loop2 Inv-loop μ-loop
-add-head c =
-    let c4 = c .before .before .before .before in
-    let c5 = c4 .before in
-    omega (arith, tail-low (c5 .loop .inv .partly), c4 .loop-test .taken)
+add-head c = omega (arith, c .before .before .before .before .loop .inv .1, c .before .before .before .loop-test .taken)
 
 loop-less : tie.Need-loop-less Inv-loop2 μ-loop2 Inv-loop μ-loop
-loop-less c =
-    let c4 = c .before .before .before .before in
-    let c5 = c4 .before in
-    omega (arith, tail-low (c5 .loop .inv .partly), c4 .loop-test .taken)
+loop-less c = omega (arith, c .before .before .before .before .loop .inv .1, c .before .before .before .loop-test .taken)
 
 loop-again : tie.Need-loop-again Inv-loop2 μ-loop2 Inv-loop μ-loop
 loop-again c =
-    let c1 = c .before in
-    turns-more (c1 .loop2 .inv) (c .loop2-test .left)
+    let inner = c .before .loop2 in
+    let outer = c .before .before .before .before .loop in
+    let more = c .before .before .before .loop-test .taken in
+    (inner .inv .0, inner .inv .1, λ bytes g. going-more (inner .inv .2 bytes (outer .inv .2 bytes g) more refl) (c .loop2-test .left))
+
+same-length-2 : tie.Need-same-length-2 Inv-loop2 μ-loop2 Inv-loop μ-loop
+same-length-2 c =
+    let s = c .before .before .before .before .before .before .before .before .before .before .before in
+    image-whole (c .before .loop .image) (c .before .loop .inv .0) ∙ sym (image-whole (s .args .image .now) (s .pre .0))
 
 returns-2 : tie.Need-returns-2 Inv-loop2 μ-loop2 Inv-loop μ-loop
 returns-2 c =
-    let c3 = c .before .before .before in
-    let c4 = c3 .before in
-    let c5 = c4 .before in
-    let es = c5 .args .t1 in
-    let long = c5 .good .0 .1 .0 .1 in
-    let l = c .before .loop in
-    let found = c4 .place-of .ensures in
-    drop-ends es (c5 .args .x) (c5 .pre) long found (c3 .if1 .left) (l .inv) (c .loop-test .left)
+    let outer = c .before in
+    let put = outer .before .before .before in
+    let found = put .before .before .before in
+    let s = found .before .before .before .before in
+    let bytes = s .args .image .now in
+    let begun
+    = going-begins bytes (s .args .x) (s .pre .0) (s .pre .1) (found .before .entry-place .ensures) (found .if1 .left)
+    (put .before .before .none .ensures) (put .put-entry .ensures) in
+    let going = outer .loop .inv .2 bytes begun in
+    going-ends bytes (s .args .x) (s .pre .0) (s .pre .1) (found .before .entry-place .ensures) (found .if1 .left) going (c .loop-test .left)
 
 pub drop-below-spec : {M : Type 1} → statement M
 drop-below-spec =
@@ -158,26 +174,21 @@ drop-below-spec =
     μ-loop2
     Inv-loop
     μ-loop
-    place-of-requires
+    entry-place-requires
+    same-length
     returns
     none-requires
-    mul-u
-    array-set-from-u
-    array-write-queue
+    put-entry-requires
     loop-holds
-    mul-place
-    array-read-place
-    mul-above
-    array-copy-out-above
+    mul-n
+    array-copy-out-n
     loop2-holds
     add-i
-    mul-e
-    array-copy-out-e
+    entry-at-requires
     is-below-requires
-    mul-u-2
-    array-set-from-u-2
+    put-entry-requires-2
     mul-queue
-    array-write-queue-2
+    array-set-from-queue
     add-tail
     loop2-less
     loop2-again
@@ -186,4 +197,5 @@ drop-below-spec =
     add-head
     loop-less
     loop-again
+    same-length-2
     returns-2)

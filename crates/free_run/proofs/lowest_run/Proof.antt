@@ -1,21 +1,22 @@
 -- Where the search stands is `Sought`.
 use Prim.Native.Nat.{_-_}
 use borrow.Author.Needs.{needs}
+use Rattle.decode.specs.Places.{entriesIn}
 use Rattle.free_run.proofs.Runs.{Sought, sought-none, sought-found, sought-more, sought-end}
 use Rattle.free_run.proofs.lowest_run.Statement.{statement}
 use Rattle.free_run.proofs.lowest_run.Tie as tie
 
 abbrev Inv-loop : tie.InvT-loop
-Inv-loop count ends start₀ s₀ start s = Sought count ends start s
+Inv-loop image count ends start₀ s₀ start s = Sought count ends start s
 
 abbrev μ-loop : tie.MeasureT-loop
-μ-loop count ends start₀ s₀ start s = 256 - s
+μ-loop image count ends start₀ s₀ start s = 256 - s
 
 note-ends-requires : tie.Need-note-ends-requires Inv-loop μ-loop
 note-ends-requires c κs = search needs
 
 loop-holds : tie.Need-loop-holds Inv-loop μ-loop
-loop-holds c = sought-none (c .before .before .pre .0)
+loop-holds c = sought-none (c .before .before .before .pre .1)
 
 mul-end : tie.Need-mul-end Inv-loop μ-loop
 mul-end c = search needs
@@ -40,12 +41,10 @@ cast-result c = search needs
 
 returns : tie.Need-returns Inv-loop μ-loop
 returns c =
+    let s = c .before .before .before .before .before .before .before in
     let c3 = c .before .before .before in
-    let c4 = c3 .before in
-    let c6 = c4 .before .before in
-    let so-far = c3 .loop .inv in
-    let noted = c4 .note-ends .ensures in
-    sought-found so-far (c .before .before .loop-test .taken) (c .before .furthest .ensures) (c6 .pre .0) (c6 .args .es) noted
+    let noted = c3 .before .note-ends .ensures in
+    sought-found (c3 .loop .inv) (c .before .before .loop-test .taken) (c .before .furthest .ensures) (s .pre .1) (entriesIn (s .args .image .now)) noted
     (c .if1 .taken)
 
 loop-less : tie.Need-loop-less Inv-loop μ-loop
@@ -58,8 +57,8 @@ loop-again c =
 
 returns-2 : tie.Need-returns-2 Inv-loop μ-loop
 returns-2 c =
-    let c4 = c .before .before .before .before in
-    sought-end (c .before .loop .inv) (c .loop-test .left) (c4 .args .es) (c .before .before .note-ends .ensures)
+    let s = c .before .before .before .before .before in
+    sought-end (c .before .loop .inv) (c .loop-test .left) (entriesIn (s .args .image .now)) (c .before .before .note-ends .ensures)
 
 pub lowest-run-spec : {M : Type 1} → statement M
 lowest-run-spec =

@@ -1,94 +1,78 @@
--- The first b rows have been stored.
-use Prim.Native.Nat.{_+_, _-_, _*_, _≤_}
+-- The first i places have been stored.
+use Prim.Native.Nat.{ℕ, _+_, _-_, _*_, _/_, _≤_}
 use native.Mathlib.Omega.{arith}
-use mathlib.Core.Path.{_≡_, refl, sym, ap, _∙_}
-use lib.ListN.{length}
+use mathlib.Core.Path.{sym, ap, subst, _∙_}
 use borrow.Author.Needs.{needs}
-use Rattle.lists.proofs.Front.{front, front-none, front-long, front-end}
-use Rattle.tables.specs.Names.{noProgram}
-use Rattle.tables.proofs.Fits.{pad-fits}
-use Rattle.pad_places.specs.Places.{upsIn, upsOf}
-use Rattle.pad_places.proofs.Rows.{spread-more}
-use Rattle.pad_places.proofs.PadRows.{pad-sized, up-rows, ups-long}
+use Rattle.lists.proofs.Laid.{Laid, one-more}
+use Rattle.lists.proofs.PartLaws.{tabulated}
+use Rattle.image.specs.Image.{decode}
+use Rattle.lookup.proofs.Laws.{flattened}
+use Rattle.pad_places.specs.Places.{onPad, upOf, upsOf}
+use Rattle.pad_places.proofs.Places.{up-fits}
 use Rattle.pad_places.proofs.write_ups.Statement.{statement}
 use Rattle.pad_places.proofs.write_ups.Tie as tie
 
 abbrev Inv-loop : tie.InvT-loop
-Inv-loop numbers to₀ p b₀ to b = (b ≤ 8) × ((length to ≡ length to₀) × (to ≡ front (8 * b) (upsOf numbers p) to₀))
+Inv-loop image pad numbers to₀ from i₀ to i = (i ≤ 64) × Laid 0 64 (λ j. upOf numbers (j / 8) (onPad (decode image) pad j)) i to
 
 abbrev μ-loop : tie.MeasureT-loop
-μ-loop numbers to₀ p b₀ to b = 8 - b
+μ-loop image pad numbers to₀ from i₀ to i = 64 - i
+
+mul-from : tie.Need-mul-from Inv-loop μ-loop
+mul-from c = search needs
 
 loop-holds : tie.Need-loop-holds Inv-loop μ-loop
-loop-holds c =
-    let c2 = c .before .before in
-    (omega arith, (refl, front-none (upsOf (c2 .args .numbers .now) (c2 .args .t1)) (c2 .args .to .now)))
+loop-holds c = (omega arith, record { long = c .before .before .before .pre .1 .1 .1; same = λ p h. absurd (omega (arith, h)) })
 
-mul-q : tie.Need-mul-q Inv-loop μ-loop
-mul-q c = search needs
+add-ticket-at : tie.Need-add-ticket-at Inv-loop μ-loop
+add-ticket-at c = search needs
 
-element-copy-out-q : tie.Need-element-copy-out-q Inv-loop μ-loop
-element-copy-out-q c = search needs
+ticket-at-requires : tie.Need-ticket-at-requires Inv-loop μ-loop
+ticket-at-requires c κs =
+    let c5 = c .before .before .before .before .before in
+    (c5 .pre .0, omega (arith, c5 .pre .1 .0, c .loop-test .taken))
 
-mul-write-ups-in : tie.Need-mul-write-ups-in Inv-loop μ-loop
-mul-write-ups-in c = search needs
+up-of-requires : tie.Need-up-of-requires Inv-loop μ-loop
+up-of-requires c κs = search needs
 
-mul-write-ups-in-2 : tie.Need-mul-write-ups-in-2 Inv-loop μ-loop
-mul-write-ups-in-2 c = search needs
+cast-to : tie.Need-cast-to Inv-loop μ-loop
+cast-to c =
+    let low : c .up-of .result ≤ 64 = subst (λ (m : ℕ). m ≤ 64) (sym (c .up-of .ensures)) (up-fits _ _ _) in
+    omega arith
 
-add-write-ups-in : tie.Need-add-write-ups-in Inv-loop μ-loop
-add-write-ups-in c = search needs
+mul-to : tie.Need-mul-to Inv-loop μ-loop
+mul-to c = search needs
 
-mul-write-ups-in-3 : tie.Need-mul-write-ups-in-3 Inv-loop μ-loop
-mul-write-ups-in-3 c = search needs
+slice-write-to : tie.Need-slice-write-to Inv-loop μ-loop
+slice-write-to c = search needs
 
-sub-write-ups-in : tie.Need-sub-write-ups-in Inv-loop μ-loop
-sub-write-ups-in c = search needs
-
-part-write-ups-in-start : tie.Need-part-write-ups-in-start Inv-loop μ-loop
-part-write-ups-in-start c = search needs
-
-part-write-ups-in-end : tie.Need-part-write-ups-in-end Inv-loop μ-loop
-part-write-ups-in-end c = search needs
-
-write-ups-in-requires : tie.Need-write-ups-in-requires Inv-loop μ-loop
-write-ups-in-requires c κs = search needs
-
-add-b : tie.Need-add-b Inv-loop μ-loop
-add-b c = search needs
+add-i : tie.Need-add-i Inv-loop μ-loop
+add-i c = search needs
 
 loop-less : tie.Need-loop-less Inv-loop μ-loop
 loop-less c = search needs
 
 loop-again : tie.Need-loop-again Inv-loop μ-loop
-unfolding upsOf
 loop-again c =
     let c2 = c .before .before in
-    let c5 = c2 .before .before .before in
-    let c6 = c5 .before in
-    let c9 = c6 .before .before .before in
-    let a = c9 .args in
-    let z = pad-sized (a .t1) (pad-fits (a .t1) (_, c9 .good .0)) in
-    let store = spread-more (upsIn (a .numbers .now)) noProgram (a .t1 .programs) (up-rows (a .t1) z (a .numbers .now)) (c6 .loop .b)
-    (omega (arith, c5 .loop-test .taken, z .programs)) (c6 .loop .to) (a .to .now) (c2 .write-ups-in .last .1 .1 .1 .0)
-    (8 * c6 .loop .b + 8 - 8 * c6 .loop .b) (omega arith) (omega (arith, c9 .pre .1, z .programs)) (c6 .loop .inv .1 .1)
-    (c2 .write-ups-in .ensures) in (
-      omega (arith, c5 .loop-test .taken),
-      (ap length store ∙ front-long (8 * (c6 .loop .b + 1)) (upsOf (a .numbers .now) (a .t1)) (a .to .now), store),
+    let c3 = c2 .before in
+    let c7 = c3 .before .before .before .before in
+    let a = c7 .args in
+    let t = decode (a .image .now) in
+    let here = flattened (a .image .now) .same (64 * a .pad + c3 .loop .i) (omega (arith, c7 .pre .1 .0, c2 .loop-test .taken)) in (
+      omega (arith, c2 .loop-test .taken),
+      one-more 0 64 (λ j. upOf (a .numbers .now) (j / 8) (onPad t (a .pad) j)) (c3 .loop .i) (c3 .loop .to) _ (c3 .loop .inv .1) (omega (arith, c2 .loop-test .taken))
+          (c .up-of .ensures ∙ ap (upOf (a .numbers .now) (c3 .loop .i / 8)) (c .before .ticket-at .ensures ∙ here)),
     )
 
 same-length : tie.Need-same-length Inv-loop μ-loop
 same-length c = search needs
 
 returns : tie.Need-returns Inv-loop μ-loop
-returns c =
-    let c1 = c .before in
-    let c4 = c1 .before .before .before in
-    let a = c4 .args in
-    let long : length (upsOf (a .numbers .now) (a .t1)) ≡ 64 = ups-long (a .t1) (pad-sized (a .t1) (pad-fits (a .t1) (_, c4 .good .0)))
-    (a .numbers .now) in
-    c1 .loop .inv .1 .1 ∙ front-end (8 * c1 .loop .b) (upsOf (a .numbers .now) (a .t1)) (a .to .now) (omega (arith, c .loop-test .left))
-    (c4 .pre .1 ∙ sym long)
+unfolding upsOf
+returns c = let a = c .before .before .before .before .before .args in
+    tabulated 0 64 (c .before .loop .i) (λ j. upOf (a .numbers .now) (j / 8) (onPad (decode (a .image .now)) (a .pad) j)) (c .before .loop .to)
+    (omega (arith, c .loop-test .left)) (c .before .loop .inv .1)
 
 pub write-ups-spec : {M : Type 1} → statement M
 write-ups-spec =
@@ -96,18 +80,15 @@ write-ups-spec =
     (tie.spec
     Inv-loop
     μ-loop
+    mul-from
     loop-holds
-    mul-q
-    element-copy-out-q
-    mul-write-ups-in
-    mul-write-ups-in-2
-    add-write-ups-in
-    mul-write-ups-in-3
-    sub-write-ups-in
-    part-write-ups-in-start
-    part-write-ups-in-end
-    write-ups-in-requires
-    add-b
+    add-ticket-at
+    ticket-at-requires
+    up-of-requires
+    cast-to
+    mul-to
+    slice-write-to
+    add-i
     loop-less
     loop-again
     same-length

@@ -1,75 +1,48 @@
--- What was written and found by places is what the names say.
+-- What is marked goes, and that is what the names say.
 use mathlib.Core.Path.{refl}
 use borrow.Author.Needs.{needs}
+use Rattle.image.proofs.RoundTrip.{image-whole}
 use Rattle.under.proofs.Removal.{under-removed}
 use Rattle.under.proofs.drop_under.Statement.{statement}
 use Rattle.under.proofs.drop_under.Tie as tie
 
-slice-aggregate-write-numbers : tie.Need-slice-aggregate-write-numbers
-slice-aggregate-write-numbers c = search needs
+slice-aggregate-mark-under : tie.Need-slice-aggregate-mark-under
+slice-aggregate-mark-under c = search needs
 
-write-numbers-requires : tie.Need-write-numbers-requires
-write-numbers-requires c κs = search needs
+mark-under-requires : tie.Need-mark-under-requires
+mark-under-requires c κs =
+    let c3 = c .before .before .before in
+    (image-whole (c3 .args .image .now) (c3 .pre .0), (c3 .pre .1 .1 .0, refl))
 
-slice-aggregate-write-ups : tie.Need-slice-aggregate-write-ups
-slice-aggregate-write-ups c = search needs
+cast-clear-marked : tie.Need-cast-clear-marked
+cast-clear-marked c = search needs
 
-slice-aggregate-write-ups-2 : tie.Need-slice-aggregate-write-ups-2
-slice-aggregate-write-ups-2 c = search needs
+slice-aggregate-clear-marked : tie.Need-slice-aggregate-clear-marked
+slice-aggregate-clear-marked c = search needs
 
-write-ups-requires : tie.Need-write-ups-requires
-write-ups-requires c κs = search needs
+clear-marked-requires : tie.Need-clear-marked-requires
+clear-marked-requires c κs = search needs
 
-slice-aggregate-place-in : tie.Need-slice-aggregate-place-in
-slice-aggregate-place-in c = search needs
-
-cast-place-in : tie.Need-cast-place-in
-cast-place-in c = search needs
-
-place-in-requires : tie.Need-place-in-requires
-place-in-requires c κs = search needs
-
-slice-aggregate-place-in-2 : tie.Need-slice-aggregate-place-in-2
-slice-aggregate-place-in-2 c = search needs
-
-cast-place-in-2 : tie.Need-cast-place-in-2
-cast-place-in-2 c = search needs
-
-place-in-requires-2 : tie.Need-place-in-requires-2
-place-in-requires-2 c κs = search needs
-
-slice-aggregate-clear-pad : tie.Need-slice-aggregate-clear-pad
-slice-aggregate-clear-pad c = search needs
-
-clear-pad-requires : tie.Need-clear-pad-requires
-clear-pad-requires c κs = search needs
+same-length : tie.Need-same-length
+same-length c = search needs
 
 returns : tie.Need-returns
 returns c =
     let c2 = c .before .before in
-    let c5 = c2 .before .before .before in
-    let c9 = c5 .before .before .before .before in
-    let c13 = c9 .before .before .before .before in
-    let c15 = c13 .before .before in
-    λ t on same. under-removed t (c15 .args .x .pad) (c15 .args .p) on (c13 .write-numbers .last .1 .0) (c9 .write-ups .last .1 .1 .0)
-    (c13 .write-numbers .ensures) (c9 .write-ups .ensures) (c15 .args .also) (c15 .args .x) same refl (c5 .place-in .result)
-    (c2 .place-in2 .result) (c5 .place-in .ensures) (c2 .place-in2 .ensures) (c .clear-pad .result) (c .clear-pad .ensures)
+    let c7 = c2 .before .before .before .before .before in
+    let c11 = c7 .before .before .before .before in
+    let s = c11 in
+    let a = s .args in
+    under-removed (a .image .now) _ _ (s .pre .1 .0) (a .also) (a .x) (s .pre .1 .1 .0) (s .pre .1 .1 .1) (c7 .mark-under .ensures) _ refl (c2 .clear-marked .ensures)
 
 pub drop-under-spec : {M : Type 1} → statement M
 drop-under-spec =
     tie.close
     (tie.spec
-    slice-aggregate-write-numbers
-    write-numbers-requires
-    slice-aggregate-write-ups
-    slice-aggregate-write-ups-2
-    write-ups-requires
-    slice-aggregate-place-in
-    cast-place-in
-    place-in-requires
-    slice-aggregate-place-in-2
-    cast-place-in-2
-    place-in-requires-2
-    slice-aggregate-clear-pad
-    clear-pad-requires
+    slice-aggregate-mark-under
+    mark-under-requires
+    cast-clear-marked
+    slice-aggregate-clear-marked
+    clear-marked-requires
+    same-length
     returns)
