@@ -8,7 +8,7 @@ use Rattle.machine.specs.State.{accepted, sheetAt, putSheets}
 use Rattle.machine.specs.Operation.{reading, writing}
 use Rattle.machine.specs.Access.{sheetOf, accessRefusal, afterRead, afterWrite}
 use Rattle.machine.specs.Step.{ownRefusal, afterOwn}
-use Rattle.served.specs.Outcomes.{stateOf, outcomeOf, answered}
+use Rattle.served.specs.Outcomes.{stateOf, outcomeOf, plainly}
 
 pub own-read : (t : Tables) (r : Request) (n : ℕ) → accessRefusal 1 t r ≡ n → ownRefusal reading t r ≡ n
 unfolding ownRefusal
@@ -18,11 +18,11 @@ pub own-write : (t : Tables) (r : Request) (n : ℕ) → accessRefusal 2 t r ≡
 unfolding ownRefusal
 own-write t r n e = e
 
-pub after-read : (t : Tables) (store sheet : List ℕ) (r : Request) → outcomeOf (answered t 0) store (sheetAt (sheetOf t r) store) ≡ afterOwn reading (stateOf t store sheet) r
+pub after-read : (t : Tables) (store sheet : List ℕ) (r : Request) → outcomeOf (plainly 0) t store (sheetAt (sheetOf t r) store) ≡ afterOwn reading (stateOf t store sheet) r
 unfolding afterOwn afterRead accepted
 after-read t store sheet r = refl
 
 pub after-write : (t : Tables) (store sheet : List ℕ) (r : Request)
-    → outcomeOf (answered t 0) (putSheets (sheetOf t r) sheet store) sheet ≡ afterOwn writing (stateOf t store sheet) r
+    → outcomeOf (plainly 0) t (putSheets (sheetOf t r) sheet store) sheet ≡ afterOwn writing (stateOf t store sheet) r
 unfolding afterOwn afterWrite accepted
 after-write t store sheet r = refl

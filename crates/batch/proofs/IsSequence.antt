@@ -2,7 +2,7 @@
 -- meets what those before it leave, and its outcome is the step's there.
 use Prim.Native.Nat.{ℕ, zero, suc, _<_}
 use native.Mathlib.Omega.{arith}
-use mathlib.Core.Path.{_≡_, refl, sym, ap, _∙_}
+use mathlib.Core.Path.{_≡_, refl, sym, _∙_}
 use mathlib.Core.List.{List, [], _∷_, _++_}
 use Rattle.lists.specs.Parts.{joined}
 use Rattle.machine.specs.State.{State, sheetAt}

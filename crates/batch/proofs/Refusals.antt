@@ -1,13 +1,13 @@
 -- What the batch leaves where it is refused, and where all of it was served.
 use Prim.Native.Nat.{ℕ, _*_, _/_, _%_}
 use native.Mathlib.Omega.{arith}
-use mathlib.Core.Path.{_≡_, sym, _∙_}
-use mathlib.Core.Bool.{Bool, true, false, not}
+use mathlib.Core.Path.{_≡_, sym, ap, _∙_}
+use mathlib.Core.Bool.{Bool, true, false, not, _&&_}
 use mathlib.Core.List.{List}
 use lib.Dec.{eqb}
 use lib.ListN.{length}
 use borrow.Author.Tests.{eqb-true, eqb-false, eq-eqb, ne-eqb, not-true, not-false}
-use Rattle.lists.proofs.Tests.{Case, pass, fail, case, and-l, and-r, and-false}
+use Rattle.lists.proofs.Tests.{Case, pass, fail, case, and-l, and-r}
 use Rattle.tables.specs.Order.{inOrder}
 use Rattle.machine.specs.Refusal.{_when_else_}
 use Rattle.image.specs.Image.{decode, isImage}
@@ -83,17 +83,27 @@ pub leaves-14 : (b : Buffers) → lengthsOk b ≡ true → tablesOk (b .tables) 
 unfolding batchRefusal _when_else_
 leaves-14 b h e = refused-leaves b 14 (rw (h, e)) (λ z. omega arith)
 
-pub no-image : (bytes : List ℕ) → isImage bytes ≡ false → tablesOk bytes ≡ false
-unfolding tablesOk
-no-image bytes e = rw e
+-- ---- the one test of the tables, by what its routine ensures
+module _ (bytes : List ℕ) {r : Bool} (e : r ≡ (isImage bytes && inOrder (decode bytes))) where
+  tables-told : r ≡ tablesOk bytes
+  unfolding tablesOk
+  tables-told = e
 
-pub out-of-order : (bytes : List ℕ) → inOrder (decode bytes) ≡ false → tablesOk bytes ≡ false
-unfolding tablesOk
-out-of-order bytes e = rw e (and-false (isImage bytes))
+  pub tables-bad : not r ≡ true → tablesOk bytes ≡ false
+  tables-bad n = failed tables-told n
 
-pub tables-ok : (bytes : List ℕ) → isImage bytes ≡ true → inOrder (decode bytes) ≡ true → tablesOk bytes ≡ true
-unfolding tablesOk
-tables-ok bytes e h = rw (e, h)
+  pub out-of-order : isImage bytes ≡ true → not r ≡ true → inOrder (decode bytes) ≡ false
+  out-of-order i n = sym (ap (λ (b : Bool). b && inOrder (decode bytes)) i) ∙ failed e n
+
+  module _ (n : not r ≡ false) where
+    pub tables-ok : tablesOk bytes ≡ true
+    tables-ok = passed tables-told n
+
+    pub is-image : isImage bytes ≡ true
+    is-image = and-l (isImage bytes) (inOrder (decode bytes)) (passed e n)
+
+    pub is-in-order : inOrder (decode bytes) ≡ true
+    is-in-order = and-r (isImage bytes) (inOrder (decode bytes)) (passed e n)
 
 -- ---- a batch that was served
 is-served : (b : Buffers) → lengthsOk b ≡ true → tablesOk (b .tables) ≡ true → allServed b ≡ batch b

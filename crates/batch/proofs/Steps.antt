@@ -18,7 +18,7 @@ use Rattle.image.specs.Image.{encode, decode, isImage}
 use Rattle.image.proofs.RoundTrip.{encode-decode, encode-is-image}
 use Rattle.lookup.proofs.Laws.{decoded-sized}
 use Rattle.served.specs.Outcomes.{stateOf}
-use Rattle.lent.specs.Contract.{LeavesLent}
+use Rattle.serve.specs.Contract.{LeavesLent}
 use Rattle.batch.specs.Numbers.{requestAt, answerNumbers}
 use Rattle.batch.specs.Sequence.{Start, met, outcomeAt, startWith, AllServed}
 use Rattle.batch.proofs.Numbers.{answer-long}

@@ -8,8 +8,7 @@ ghost use Rattle.tables.specs.Order.{inOrder, noFarChild};
 ghost use Rattle.machine.specs.Step.{step};
 ghost use Rattle.image.specs.Image.{decode, isImage};
 ghost use Rattle.served.specs.Outcomes.{stateOf};
-ghost use Rattle.serve.specs.Contract.{Lengths};
-ghost use Rattle.lent.specs.Contract.{LeavesLent};
+ghost use Rattle.serve.specs.Contract.{Lengths, LeavesLent};
 ghost use Rattle.batch.specs.Numbers.{requestIn, countOf, answerNumbers};
 ghost use Rattle.batch.specs.Sequence.{startWith, Whole, AllServed};
 ghost use Rattle.batch.specs.Batch.{lengthsFit, buffersOf, Leaves};
@@ -65,12 +64,12 @@ fn serve_one(
     ensures { λ a. ⌜ LeavesLent (step (stateOf (decode (now (tables .entry))) (now (store .entry)) (now (sheet .entry))) r) a (now (tables .exit)) (now (store .exit)) (now (sheet .exit)) ⌝ }
 {
     if sure {
-        return lent::request(tables, store, sheet, r);
+        return serve::request(tables, store, sheet, r);
     }
     if !order::image_in_order(tables) {
-        return lent::plain(14);
+        return served::plain(14);
     }
-    lent::request(tables, store, sheet, r)
+    serve::request(tables, store, sheet, r)
 }
 
 // The requests one after the other, from tables in order. The first needs no other test of that. Nor do those behind it where `keeps`
@@ -158,9 +157,6 @@ pub fn serve(
         answers.len(),
     ) {
         return 13;
-    }
-    if !decode::is_image(tables) {
-        return 14;
     }
     if !order::image_in_order(tables) {
         return 14;

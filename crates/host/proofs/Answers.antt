@@ -1,14 +1,19 @@
--- What emptying leaves where the image has another length, and where it has its own.
+-- What emptying leaves where the image has another length, and where it has its own; what the check answers where the tables are refused.
 use Prim.Native.Nat.{ℕ}
-use mathlib.Core.Path.{_≡_, ap, _∙_}
+use mathlib.Core.Path.{_≡_, sym, ap, _∙_}
+use mathlib.Core.Bool.{Bool, false, _&&_}
 use mathlib.Core.List.{List}
 use lib.ListN.{length}
 use borrow.Author.Tests.{eq-eqb, ne-eqb}
+use Rattle.lists.proofs.Tests.{Case, pass, fail, case}
+use Rattle.tables.specs.Order.{inOrder}
+use Rattle.machine.specs.Refusal.{_when_else_}
+use Rattle.machine.specs.Dock.{dockCheck}
 use Rattle.machine.specs.Empty.{emptied}
 use Rattle.step.specs.declared.Emptied.{Emptied}
 use Rattle.step.specs.Contract.{Empties}
-use Rattle.image.specs.Image.{encode}
-use Rattle.host.specs.Host.{EmptiedImage, emptyImage, EmptiesImage}
+use Rattle.image.specs.Image.{encode, decode, isImage}
+use Rattle.host.specs.Host.{EmptiedImage, emptyImage, EmptiesImage, checkImage}
 
 abbrev imageOf : ℕ → List ℕ → List ℕ → EmptiedImage
 imageOf result tables store = record { result = result; tables = tables; store = store }
@@ -34,3 +39,15 @@ module _ (tables store : List ℕ) where
         tables = written ∙ ap encode (e .tables) ∙ λ i. is i .tables;
         store = e .store ∙ λ i. is i .store;
       }
+
+-- ---- the check on bytes that are no tables in order
+module _ (tables : List ℕ) (pad program number sheet right : ℕ) (long : length tables ≡ 11328) where
+  pub check-refused : (isImage tables && inOrder (decode tables)) ≡ false → 14 ≡ checkImage tables pad program number sheet right
+  unfolding checkImage dockCheck _when_else_
+  check-refused e = go (case (isImage tables))
+    where
+      go : Case (isImage tables) → 14 ≡ checkImage tables pad program number sheet right
+      go (pass i) =
+          let o : inOrder (decode tables) ≡ false = sym (ap (λ (b : Bool). b && inOrder (decode tables)) i) ∙ e in
+          rw (eq-eqb (length tables) 11328 long, i, o)
+      go (fail i) = rw (eq-eqb (length tables) 11328 long, i)

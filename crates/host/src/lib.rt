@@ -82,9 +82,6 @@ pub extern "C" fn dock_check(
     if tables.len() != TABLES {
         return 13;
     }
-    if !decode::is_image(tables) {
-        return 14;
-    }
     if !order::image_in_order(tables) {
         return 14;
     }
@@ -104,9 +101,6 @@ pub extern "C" fn dock_in_order(tables: &[u8]) -> u16
 {
     if tables.len() != TABLES {
         return 13;
-    }
-    if !decode::is_image(tables) {
-        return 14;
     }
     if !order::image_in_order(tables) {
         return 14;

@@ -1,17 +1,20 @@
 // Op 2, pass.
 ghost use mathlib.Core.Path.{_≡_};
+ghost use mathlib.Core.Bool.{true};
 ghost use mathlib.Core.List.{List};
-ghost use Prim.Native.Nat.{ℕ, _+_, _<_};
+ghost use Prim.Native.Nat.{ℕ, _+_, _/_, _%_, _<_};
+ghost use lib.ListN.{length};
 ghost use Rattle.machine.specs.Step.{serve};
-ghost use Rattle.served.specs.Outcomes.{stateOf, outcomeOf};
+ghost use Rattle.image.specs.Image.{decode, isImage};
+ghost use Rattle.refusals.specs.Found.{SeatOf};
+ghost use Rattle.served.specs.Outcomes.{stateOf, Serves};
 ghost use Rattle.served.specs.Ready.{Ready, Asks};
 ghost use Rattle.pass.specs.Grant.{grantFor};
 use machine::Answer;
 use machine::Request;
-use machine::Served;
+use refusals::Seat;
 use tables::Kind;
 use tables::Name;
-use tables::Tables;
 use tables::Ticket;
 
 // The recipient's grant: on the same pad a child, to another pad a received grant.
@@ -28,31 +31,37 @@ fn granted(k: Ticket, r: Request, n: Name) -> Ticket
     made::head(Kind::Received, n, first, r.count, r.rights)
 }
 
-// The asker gets a recall under its ticket, the recipient a grant; the dock is told if it is on another pad.
-pub fn pass(t: Tables, r: Request) -> Served
-    requires { ⌜ Ready t × Asks 2 r ⌝ }
-    ensures { λ d. ⌜ ((store : List ℕ) (sheet : List ℕ) → outcomeOf d store sheet ≡ serve (stateOf t store sheet) r) ⌝ }
+// The lowest free place and the last number of a program, counted over all pads.
+fn seat(image: &[u8], program: usize) -> Seat
+    requires { ⌜ (length (now image) ≡ 11328) × (program < 32) ⌝ }
+    ensures { λ s. ⌜ SeatOf (decode (now (image .entry))) (program / 8) (program % 8) s ⌝ }
 {
-    let mut u = t;
-    let a = r.pad as usize;
-    let b = r.topad as usize;
-    let from = u.pads[a];
-    let p = from.programs[r.program as usize];
-    let to = u.pads[b];
-    let q = to.programs[r.toprogram as usize];
-    let k = pads::find(p, r.ticket);
-    let es = u.entries;
+    Seat {
+        place: lookup::free_place(image, program),
+        last: decode::last_at(image, program),
+    }
+}
+
+// The asker gets a recall under its ticket, the recipient a grant; the dock is told if it is on another pad.
+pub fn pass(image: &mut [u8], r: Request) -> Answer
+    requires { ⌜ (isImage (now image) ≡ true) × (Ready (decode (now image)) × Asks 2 r) ⌝ }
+    ensures { λ a. ⌜ ((store : List ℕ) (sheet : List ℕ) → Serves (serve (stateOf (decode (now (image .entry))) store sheet) r) a (now (image .exit)) store sheet) ⌝ }
+{
+    let own = served::asked_name(r);
+    let k = lookup::ticket(image, own);
     let d = k.dock;
-    let e = dock::entry_in(es, d);
+    let e = lookup::entry(image, d);
+    let here = 8 * r.pad as usize + r.program as usize;
+    let there = 8 * r.topad as usize + r.toprogram as usize;
+    let p = seat(image, here);
+    let q = seat(image, there);
     let result = refusals::pass(k, p, q, e, r);
     if result == 12 {
-        let own = served::asked_name(r);
-        let left = under::drop_head(from, own);
-        u.pads[a] = left;
-        return served::answer(u, 12);
+        under::drop_head(image, d);
+        return served::plain(12);
     }
     if result != 0 {
-        return served::answer(u, result);
+        return served::plain(result);
     }
     let n = Name {
         pad: r.topad,
@@ -65,23 +74,13 @@ pub fn pass(t: Tables, r: Request) -> Served
         recipient: n.number,
     };
     let recall = made::recall(answer.ticket, r.ticket, n);
-    let lent = pads::give(from, r.program as usize, recall);
-    u.pads[a] = lent;
+    insertion::give(image, here, recall);
     let grant = granted(k, r, n);
-    let there = u.pads[b];
-    let given = pads::give(there, r.toprogram as usize, grant);
-    u.pads[b] = given;
-    if r.pad != r.topad {
-        let entry = made::entry(n, d, k.first + r.first, r.count, r.rights);
-        // In tables in order there is one while a program has a free place (`entry-room`).
-        let rest = u.entries;
-        let spare = dock::spare_place(rest);
-        if spare < 256 {
-            u.entries[spare] = entry;
-        }
+    insertion::give(image, there, grant);
+    if r.pad == r.topad {
+        return answer;
     }
-    Served {
-        answer: answer,
-        tables: u,
-    }
+    let entry = made::entry(n, d, k.first + r.first, r.count, r.rights);
+    insertion::make(image, entry);
+    answer
 }

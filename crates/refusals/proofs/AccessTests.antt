@@ -7,6 +7,7 @@ use lib.Dec.{leb}
 use borrow.Author.Tests.{not-false, le-leb, lt-leb}
 use Rattle.rights.specs.Rules.{rightsOf, within}
 use Rattle.tables.specs.declared.{Ticket.Ticket, Tables.Tables}
+use Rattle.tables.proofs.KindLaws.{grant-of}
 use Rattle.machine.specs.declared.Request.{Request}
 use Rattle.machine.specs.State.{asked}
 use Rattle.machine.specs.Refusal.{_when_else_}
@@ -14,7 +15,7 @@ use Rattle.machine.specs.Dock.{dockRefusal}
 use Rattle.machine.specs.Access.{sheetOf, accessRefusal}
 use Rattle.machine.proofs.RefusalLaws.{when-past}
 use Rattle.dock.proofs.Laws.{accepted-sheet}
-use Rattle.tables.specs.Kinds.{isLive, isRecall}
+use Rattle.tables.specs.Kinds.{isLive, isGrant, isRecall}
 
 -- ---- the chain, over the ticket that was found
 module _ (right : ℕ) (t : Tables) (r : Request) (k : Ticket) (e : asked t r ≡ k) where
@@ -42,9 +43,13 @@ module _ (right : ℕ) (t : Tables) (r : Request) (k : Ticket) (e : asked t r �
         dock-says h = sym (rw (e, live, grant, lt-leb (k .count) (r .first) low, h))
 
 -- ---- what a result says
-pub live-at : (right : ℕ) (t : Tables) (r : Request) (n : ℕ) → accessRefusal right t r ≡ n → (n ≡ 4 → ⊥) → isLive (asked t r .kind) ≡ true
+pub grant-at : (right : ℕ) (t : Tables) (r : Request) → accessRefusal right t r ≡ 12 → isGrant (asked t r .kind) ≡ true
 unfolding accessRefusal
-live-at right t r n e ne = not-false _ (when-past 4 (not (isLive (asked t r .kind))) _ n (λ q. ne (sym q)) e .0)
+grant-at right t r e =
+    let k = asked t r in
+    let p₄ = when-past 4 (not (isLive (k .kind))) _ 12 (λ z. omega (arith, z)) e in
+    let p₅ = when-past 5 (isRecall (k .kind)) _ 12 (λ z. omega (arith, z)) (p₄ .1) in
+    grant-of (k .kind) (not-false _ (p₄ .0)) (p₅ .0)
 
 pub sheet-low : (right : ℕ) (t : Tables) (r : Request) → accessRefusal right t r ≡ 0 → sheetOf t r < 256
 unfolding accessRefusal

@@ -4,50 +4,42 @@ use native.Mathlib.Omega.{arith}
 use mathlib.Core.Path.{_≡_, sym, ap, subst, _∙_}
 use mathlib.Core.Bool.{true, false, not, _&&_, _||_}
 use lib.Dec.{ltb, eqb}
-use lib.ListN.{length}
 use borrow.Author.Tests.{not-false, leb-false, le-leb, lt-leb, lt-ltb, le-ltb}
-use Rattle.lists.specs.Lists.{firstIndex}
 use Rattle.lists.proofs.Tests.{or-false-l, or-false-r}
 use Rattle.rights.specs.Rules.{rightsOf, within, canPass}
-use Rattle.tables.specs.declared.{Name.Name, Ticket.Ticket, Program.Program, Entry.Entry, Tables.Tables}
+use Rattle.tables.specs.declared.{Name.Name, Ticket.Ticket, Entry.Entry, Tables.Tables}
 use Rattle.tables.specs.Names.{sameProgram}
-use Rattle.tables.specs.Lookup.{programAt, lastOf, lookup}
-use Rattle.tables.specs.Change.{isFree, hasPlace}
+use Rattle.tables.specs.Lookup.{lastOf, lookup}
+use Rattle.tables.specs.Change.{hasPlace}
 use Rattle.tables.proofs.KindLaws.{grant-of}
+use Rattle.tables.proofs.FreePlaces.{has-place, has-no-place}
 use Rattle.machine.specs.declared.Request.{Request}
 use Rattle.machine.specs.State.{askedName, asked}
 use Rattle.machine.specs.Refusal.{_when_else_, isSpent}
 use Rattle.machine.specs.Pass.{passRefusal}
 use Rattle.machine.proofs.RefusalLaws.{when-past}
-use Rattle.pads.proofs.FreePlaces.{has-place, has-no-place}
-use Rattle.refusals.specs.Found.{Found}
+use Rattle.refusals.specs.declared.Seat.{Seat}
+use Rattle.refusals.specs.Found.{SeatOf, Found}
 use Rattle.tables.specs.Kinds.{isLive, isGrant, isRecall}
 
--- ---- free places and numbers, over the program that was found
-module _ (t : Tables) (a b : ℕ) (p : Program) (e : programAt t a b ≡ p) where
-  module _ (long : length (p .tickets) ≡ 8) (i : ℕ) (f : i ≡ firstIndex isFree (p .tickets)) where
-    long′ : length (programAt t a b .tickets) ≡ 8
-    long′ = ap (λ (x : Program). length (x .tickets)) e ∙ long
+-- ---- free places and numbers, over the seat that was found
+module _ (t : Tables) (a b : ℕ) (p : Seat) (e : SeatOf t a b p) where
+  pub place-found : p .place < 8 → hasPlace t a b ≡ true
+  place-found h = has-place t a b (e .long) (p .place) (e .place) h
 
-    first : i ≡ firstIndex isFree (programAt t a b .tickets)
-    first = f ∙ ap (λ (x : Program). firstIndex isFree (x .tickets)) (sym e)
-
-    pub place-found : i < 8 → hasPlace t a b ≡ true
-    place-found h = has-place t a b long′ i first h
-
-    pub no-place-found : 8 ≤ i → hasPlace t a b ≡ false
-    no-place-found h = has-no-place t a b long′ i first h
+  pub no-place-found : 8 ≤ p .place → hasPlace t a b ≡ false
+  no-place-found h = has-no-place t a b (e .long) (p .place) (e .place) h
 
   pub numbers-left : p .last < 65535 → isSpent t a b ≡ false
   unfolding isSpent
-  numbers-left h = lt-leb 65535 (programAt t a b .last) (subst (λ (x : Program). x .last < 65535) (sym e) h)
+  numbers-left h = lt-leb 65535 (lastOf t a b) (omega (arith, h, e .last))
 
   pub numbers-spent : 65535 ≤ p .last → isSpent t a b ≡ true
   unfolding isSpent
-  numbers-spent h = le-leb 65535 (programAt t a b .last) (subst (λ (x : Program). 65535 ≤ x .last) (sym e) h)
+  numbers-spent h = le-leb 65535 (lastOf t a b) (omega (arith, h, e .last))
 
 -- ---- the chain, over what was found
-module _ (t : Tables) (r : Request) (k : Ticket) (p q : Program) (e : Entry) (f : Found t r k p q e) where
+module _ (t : Tables) (r : Request) (k : Ticket) (p q : Seat) (e : Entry) (f : Found t r k p q e) where
   pub no-ticket : isLive (k .kind) ≡ false → 4 ≡ passRefusal t r
   unfolding passRefusal _when_else_
   no-ticket h = rw (f .ticket, h)
@@ -105,9 +97,13 @@ module _ (t : Tables) (r : Request) (k : Ticket) (p q : Program) (e : Entry) (f 
                           ∙ sym (rw (f .ticket, live, grant, other, le-ltb (k .count) (r .first + r .count) fits, may, held, place, place′, left, left′))
 
 -- ---- what a result says
-pub live-at : (t : Tables) (r : Request) (n : ℕ) → passRefusal t r ≡ n → (n ≡ 4 → ⊥) → isLive (asked t r .kind) ≡ true
+pub grant-at : (t : Tables) (r : Request) → passRefusal t r ≡ 12 → isGrant (asked t r .kind) ≡ true
 unfolding passRefusal
-live-at t r n e ne = not-false _ (when-past 4 (not (isLive (asked t r .kind))) _ n (λ q. ne (sym q)) e .0)
+grant-at t r e =
+    let k = asked t r in
+    let p₄ = when-past 4 (not (isLive (k .kind))) _ 12 (λ z. omega (arith, z)) e in
+    let p₅ = when-past 5 (isRecall (k .kind)) _ 12 (λ z. omega (arith, z)) (p₄ .1) in
+    grant-of (k .kind) (not-false _ (p₄ .0)) (p₅ .0)
 
 -- the numbers are not spent, and the ticket is a grant
 pub record Accepted (t : Tables) (r : Request) : Type 0 where

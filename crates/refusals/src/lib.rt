@@ -13,7 +13,6 @@ ghost use Rattle.refusals.specs.Found.{Found};
 use machine::Request;
 use rights::Rights;
 use tables::Entry;
-use tables::Program;
 use tables::Ticket;
 
 fn is_to_itself(r: Request) -> bool
@@ -35,8 +34,14 @@ fn lacks_entry(e: Entry, r: Request) -> bool
     !e.live
 }
 
-// A pass: 4, 5, 8, 6, 7, 9, 10, 12 or 0, from the ticket asked for, the programs of asker and recipient, and the entry of the ticket's dock name.
-pub fn pass(k: Ticket, p: Program, q: Program, e: Entry, r: Request) -> u16
+// What a new ticket needs of a program: its lowest free place, 8 where there is none, and its last number.
+pub struct Seat {
+    pub place: usize,
+    pub last: u16,
+}
+
+// A pass: 4, 5, 8, 6, 7, 9, 10, 12 or 0, from the ticket asked for, the seats of asker and recipient, and the entry of the ticket's dock name.
+pub fn pass(k: Ticket, p: Seat, q: Seat, e: Entry, r: Request) -> u16
     ensures { λ n. ⌜ ((t : Tables) → Found t r k p q e → n ≡ passRefusal t r) ⌝ }
 {
     let kind = k.kind;
@@ -60,12 +65,10 @@ pub fn pass(k: Ticket, p: Program, q: Program, e: Entry, r: Request) -> u16
     if !held.contains(asked) {
         return 7;
     }
-    let here = pads::free_place(p);
-    if 8 <= here {
+    if 8 <= p.place {
         return 9;
     }
-    let there = pads::free_place(q);
-    if 8 <= there {
+    if 8 <= q.place {
         return 9;
     }
     if 65535 <= p.last {

@@ -15,6 +15,7 @@ use Rattle.preservation.proofs.TestMeansOrder.{test-means-order}
 use Rattle.under.specs.Linked.{Linked}
 use Rattle.below.specs.Links.{LinkedEntries}
 use Rattle.served.specs.Ready.{Ready}
+use Rattle.serve.proofs.ByDock.{heads}
 
 module _ (t : Tables) (ok : InOrder t) where
   linked : Linked t
@@ -38,7 +39,7 @@ module _ (t : Tables) (ok : InOrder t) where
   }
 
   pub ready-from : Ready t
-  ready-from = record { linked = linked; entries = entries-linked; span = λ n g. ok .rules .span n g .fits }
+  ready-from = record { linked = linked; heads = heads t ok; entries = entries-linked; span = λ n g. ok .rules .span n g .fits }
 
 pub ready : (t : Tables) → Sized t → inOrder t ≡ true → Ready t
 ready t z e = ready-from t (test-means-order t z e)

@@ -1,2 +1,3 @@
+pub mod ByDock
 pub mod FromOrder
 pub mod Parts

@@ -1,35 +1,48 @@
--- One equation between outcomes is four between their fields; a stopped request hands back what it got; and which operation is left when
--- five are excluded.
-use Prim.Native.Nat.{ℕ, _+_, _≤_}
+-- One equation between outcomes is one between each of their fields; a stopped request leaves what it got; and which operation is left
+-- when five are excluded.
+use Prim.Native.Nat.{ℕ, _+_, _≤_, _<_}
 use native.Mathlib.Omega.{arith}
 use mathlib.Core.Path.{_≡_, sym, ap, subst, _∙_}
+use mathlib.Core.Bool.{true}
 use mathlib.Core.List.{List}
+use lib.ListN.{getD}
 use Rattle.tables.specs.declared.Tables.{Tables}
-use Rattle.machine.specs.declared.{Request.Request, Served.Served}
+use Rattle.machine.specs.declared.{Request.Request, Answer.Answer}
 use Rattle.machine.specs.State.{Outcome, refused}
 use Rattle.machine.specs.Step.{serve}
+use Rattle.image.specs.Image.{encode, decode, isImage}
+use Rattle.image.proofs.RoundTrip.{encode-decode}
 use Rattle.request.specs.Early.{earlyRefusal}
 use Rattle.request.proofs.Laws.{op-low, op-high, serve-stopped}
-use Rattle.served.specs.Outcomes.{stateOf, outcomeOf, answered}
+use Rattle.served.specs.Outcomes.{stateOf, outcomeOf, plainly, Serves}
 use Rattle.served.specs.Ready.{Asks}
-use Rattle.serve.specs.Contract.{HandsBack}
+use Rattle.served.proofs.Laws.{stays}
+use Rattle.serve.specs.Contract.{LeavesLent}
 
-pub by-fields : (o : Outcome) (d : Served) (store sheet : List ℕ) → outcomeOf d store sheet ≡ o → HandsBack o d store sheet
-by-fields o d store sheet e = record {
-  answer = ap (λ (x : Outcome). x .answer) e;
-  tables = ap (λ (x : Outcome). x .state .tables) e;
-  store = ap (λ (x : Outcome). x .state .store) e;
-  sheet = ap (λ (x : Outcome). x .state .sheet) e;
-}
+module _ {o : Outcome} {a : Answer} {image store sheet : List ℕ} (small : (i : ℕ) → getD image i 0 < 256) where
+  pub by-fields : Serves o a image store sheet → LeavesLent o a image store sheet
+  by-fields s =
+      let decoded : decode image ≡ o .state .tables = ap (λ (x : Outcome). x .state .tables) (s .same) in
+      record {
+        answer = ap (λ (x : Outcome). x .answer) (s .same);
+        tables = sym (encode-decode image small (s .is)) ∙ ap encode decoded;
+        decoded = decoded;
+        store = ap (λ (x : Outcome). x .state .store) (s .same);
+        sheet = ap (λ (x : Outcome). x .state .sheet) (s .same);
+      }
 
-pub same-outcome : (o o′ : Outcome) (d : Served) (store sheet : List ℕ) → o ≡ o′ → HandsBack o d store sheet → HandsBack o′ d store sheet
-same-outcome o o′ d store sheet e h = subst (λ (x : Outcome). HandsBack x d store sheet) e h
+  -- the image stays
+  pub left-alone : isImage image ≡ true → {n : ℕ} → a ≡ plainly n → outcomeOf (plainly n) (decode image) store sheet ≡ o → LeavesLent o a image store sheet
+  left-alone is e q = by-fields (stays is e q)
+
+pub same-outcome : {o o′ : Outcome} → o ≡ o′ → {a : Answer} {image store sheet : List ℕ} → LeavesLent o a image store sheet → LeavesLent o′ a image store sheet
+same-outcome e {a} {image} {store} {sheet} l = subst (λ (x : Outcome). LeavesLent x a image store sheet) e l
 
 pub stopped : (t : Tables) (store sheet : List ℕ) (r : Request) (n : ℕ) → n ≡ earlyRefusal r → (n ≡ 0 → ⊥)
-    → outcomeOf (answered t n) store sheet ≡ serve (stateOf t store sheet) r
+    → outcomeOf (plainly n) t store sheet ≡ serve (stateOf t store sheet) r
 unfolding refused
 stopped t store sheet r n e ne =
-    ap (λ (x : ℕ). outcomeOf (answered t x) store sheet) e ∙ sym (serve-stopped (stateOf t store sheet) r (λ z. ne (e ∙ z)))
+    ap (λ (x : ℕ). outcomeOf (plainly x) t store sheet) e ∙ sym (serve-stopped (stateOf t store sheet) r (λ z. ne (e ∙ z)))
 
 pub asks : (op : ℕ) (r : Request) (n : ℕ) → n ≡ earlyRefusal r → n ≡ 0 → r .op ≡ op → Asks op r
 asks op r n e z o = record { early = sym e ∙ z; number = o }

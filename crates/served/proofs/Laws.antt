@@ -1,23 +1,26 @@
 -- What is served where the request passed 1, 2 and 3: from the operation's own refusal, the outcome.
-use Prim.Native.Nat.{ℕ}
+use Prim.Native.Nat.{ℕ, _+_, _*_, _/_, _%_, _<_}
+use native.Mathlib.Omega.{arith}
 use mathlib.Core.Path.{_≡_, refl, sym, ap, subst, _∙_}
-use mathlib.Core.Bool.{true}
+use mathlib.Core.Bool.{Bool, true}
 use mathlib.Core.List.{List}
 use borrow.Author.Tests.{ne-eqb}
-use Rattle.tables.specs.declared.{Name.Name, Pad.Pad, Tables.Tables}
-use Rattle.tables.specs.Lookup.{ticketsOf, ticketIn, lookup}
-use Rattle.tables.specs.Chains.{chainHead, atOrUnder}
-use Rattle.tables.specs.Change.{dropTickets}
-use Rattle.machine.specs.declared.Request.{Request}
-use Rattle.machine.specs.State.{State, refused, withTables, askedName, asked}
+use Rattle.tables.specs.declared.{Name.Name, Ticket.Ticket, Tables.Tables}
+use Rattle.tables.specs.Kinds.{isGrant}
+use Rattle.tables.specs.Lookup.{ticketsOf, lookup}
+use Rattle.tables.specs.Chains.{atOrUnder}
+use Rattle.tables.specs.Change.{give, dropTickets}
+use Rattle.machine.specs.declared.{Request.Request, Answer.Answer}
+use Rattle.machine.specs.State.{State, Outcome, refused, withTables, askedName, asked}
 use Rattle.machine.specs.Operation.{Operation, operationOf}
 use Rattle.machine.specs.Step.{ownRefusal, afterOwn, dropHead, outcome, serve}
-use Rattle.pads.specs.OnePad.{withPad}
-use Rattle.under.specs.Linked.{OnPad}
+use Rattle.image.specs.Image.{decode, isImage}
+use Rattle.in_place.specs.Shows.{Holds}
+use Rattle.below.specs.Links.{LinkedEntries}
+use Rattle.under.specs.Docked.{Heads}
 use Rattle.request.specs.Early.{earlyRefusal}
 use Rattle.request.proofs.Laws.{serve-past}
-use Rattle.served.specs.Outcomes.{stateOf, outcomeOf, answered}
-use Rattle.tables.specs.Kinds.{isLive}
+use Rattle.served.specs.Outcomes.{stateOf, outcomeOf, plainly, Serves}
 
 module _ (t : Tables) (store sheet : List ℕ) (r : Request) (z : earlyRefusal r ≡ 0) (op : Operation) (o : operationOf (r .op) ≡ op) where
   abbrev before : State
@@ -30,24 +33,50 @@ module _ (t : Tables) (store sheet : List ℕ) (r : Request) (z : earlyRefusal r
   unfolding outcome
   served-done e = sym (by-own ∙ rw (e, o))
 
-  pub served-lost : ownRefusal op t r ≡ 12 → outcomeOf (answered (dropHead t r) 12) store sheet ≡ serve before r
+  pub served-lost : ownRefusal op t r ≡ 12 → outcomeOf (plainly 12) (dropHead t r) store sheet ≡ serve before r
   unfolding outcome refused withTables
   served-lost e = sym (by-own ∙ rw e)
 
-  pub served-refused : (n : ℕ) → ownRefusal op t r ≡ n → (n ≡ 0 → ⊥) → (n ≡ 12 → ⊥) → outcomeOf (answered t n) store sheet ≡ serve before r
+  pub served-refused : (n : ℕ) → ownRefusal op t r ≡ n → (n ≡ 0 → ⊥) → (n ≡ 12 → ⊥) → outcomeOf (plainly n) t store sheet ≡ serve before r
   unfolding outcome refused
   served-refused n e ne ne′ = sym (by-own ∙ rw (e, ne-eqb n 0 ne, ne-eqb n 12 ne′))
 
--- ---- the ticket asked for, found in the asker's program
-pub asked-in : (t : Tables) (r : Request) → asked t r ≡ ticketIn (ticketsOf t (r .pad) (r .program)) (r .ticket)
-unfolding lookup
-asked-in t r = refl
+-- ---- the outcome is left in the buffers
+module _ {o : Outcome} {a : Answer} {image store sheet : List ℕ} where
+  -- the image holds other tables
+  pub leaves : {u : Tables} → Holds image u → {b : Answer} → a ≡ b → outcomeOf b u store sheet ≡ o → Serves o a image store sheet
+  leaves held e q = record { is = held .is; same = (λ i. outcomeOf (e i) (held .tables i) store sheet) ∙ q }
 
--- ---- 12: the asker's pad without the head of the ticket's chain and all under it, put back in its place
-pub lost-pad : (t : Tables) (r : Request) (p rest : Pad) (n : Name) → n ≡ askedName r → OnPad t (r .pad) p → isLive (asked t r .kind) ≡ true
-    → ((u : Tables) → OnPad u (n .pad) p → isLive (lookup u n .kind) ≡ true → withPad u (n .pad) rest ≡ dropTickets (atOrUnder u (chainHead u n)) u)
-    → withPad t (r .pad) rest ≡ dropHead t r
+  -- the image stays
+  pub stays : isImage image ≡ true → {n : ℕ} → a ≡ plainly n → outcomeOf (plainly n) (decode image) store sheet ≡ o → Serves o a image store sheet
+  stays is e q = leaves (record { is = is; tables = refl }) e q
+
+-- ---- the ticket asked for
+pub asked-found : (t : Tables) (r : Request) (n : Name) (k : Ticket) → n ≡ askedName r → k ≡ lookup t n → asked t r ≡ k
+asked-found t r n k e f = sym (f ∙ ap (lookup t) e)
+
+-- ---- 12: the head of a grant's chain is its dock name
+pub lost : (t : Tables) (r : Request) (k : Ticket) → asked t r ≡ k → Heads t → isGrant (asked t r .kind) ≡ true
+    → dropTickets (atOrUnder t (k .dock)) t ≡ dropHead t r
 unfolding dropHead
-lost-pad t r p rest n e on live dropped =
-    subst (λ (m : Name). withPad t (m .pad) rest ≡ dropTickets (atOrUnder t (chainHead t m)) t) e
-    (dropped t (subst (λ (m : Name). OnPad t (m .pad) p) (sym e) on) (subst (λ (m : Name). isLive (lookup t m .kind) ≡ true) (sym e) live))
+lost t r k e heads g =
+    ap (λ (h : Name). dropTickets (atOrUnder t h) t) (ap (λ (x : Ticket). x .dock) (sym e) ∙ sym (heads .head (askedName r) g))
+
+-- ---- tickets removed leave the entries linked
+pub entries-kept : (gone : Name → Bool) (t u : Tables) → u ≡ dropTickets gone t → LinkedEntries (t .entries) → LinkedEntries (u .entries)
+unfolding dropTickets
+entries-kept gone t u e linked = subst (λ (x : Tables). LinkedEntries (x .entries)) (sym e) linked
+
+-- ---- programs counted over all pads
+module _ (a b : ℕ) (low : b < 8) where
+  pub pad-part : (8 * a + b) / 8 ≡ a
+  pad-part = omega (arith, low)
+
+  pub program-part : (8 * a + b) % 8 ≡ b
+  program-part = omega (arith, low)
+
+  pub tickets-there : (t : Tables) → ticketsOf t ((8 * a + b) / 8) ((8 * a + b) % 8) ≡ ticketsOf t a b
+  tickets-there t = λ i. ticketsOf t (pad-part i) (program-part i)
+
+  pub given-there : (t : Tables) (k : Ticket) → give t ((8 * a + b) / 8) ((8 * a + b) % 8) k ≡ give t a b k
+  given-there t k = λ i. give t (pad-part i) (program-part i) k

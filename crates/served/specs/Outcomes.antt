@@ -1,18 +1,25 @@
--- What the code takes and hands back, as the machine's states and outcomes.
+-- What the code takes and leaves, as the machine's states and outcomes.
 use Prim.Native.Nat.{ℕ}
+use mathlib.Core.Path.{_≡_}
+use mathlib.Core.Bool.{true}
 use mathlib.Core.List.{List}
 use Rattle.tables.specs.declared.Tables.{Tables}
-use Rattle.machine.specs.declared.Served.{Served}
+use Rattle.machine.specs.declared.Answer.{Answer}
 use Rattle.machine.specs.State.{State, Outcome, answerOf}
+use Rattle.image.specs.Image.{decode, isImage}
 
 -- the tables with the lent store and sheet buffer
 abbrev pub stateOf : Tables → List ℕ → List ℕ → State
 stateOf t store sheet = record { tables = t; store = store; sheet = sheet }
 
--- what the code hands back, with the store and the sheet buffer that it leaves
-abbrev pub outcomeOf : Served → List ℕ → List ℕ → Outcome
-outcomeOf d store sheet = record { answer = d .answer; state = stateOf (d .tables) store sheet }
+abbrev pub outcomeOf : Answer → Tables → List ℕ → List ℕ → Outcome
+outcomeOf a t store sheet = record { answer = a; state = stateOf t store sheet }
 
 -- an answer with no new number
-abbrev pub answered : Tables → ℕ → Served
-answered t result = record { answer = answerOf result 0 0; tables = t }
+abbrev pub plainly : ℕ → Answer
+plainly result = answerOf result 0 0
+
+-- an outcome, in the answer and in what is left of the lent buffers, the tables as an image of them
+pub record Serves (o : Outcome) (a : Answer) (image store sheet : List ℕ) : Type 0 where
+  pub is : isImage image ≡ true
+  pub same : outcomeOf a (decode image) store sheet ≡ o

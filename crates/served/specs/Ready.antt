@@ -9,10 +9,13 @@ use Rattle.machine.specs.declared.Request.{Request}
 use Rattle.request.specs.Early.{earlyRefusal}
 use Rattle.below.specs.Links.{LinkedEntries}
 use Rattle.under.specs.Linked.{Linked}
+use Rattle.under.specs.Docked.{Heads}
 
 pub record Ready (t : Tables) : Type 0 where
   -- T1, T3, T6: parents on a pad
   pub linked : Linked t
+  -- T3, T4: dock names on a pad
+  pub heads : Heads t
   -- T5: parents in the dock
   pub entries : LinkedEntries (t .entries)
   -- T2: a grant lies within the store

@@ -1,25 +1,17 @@
-// What the operations have in common: what a refusal hands back, and the name of the ticket asked for.
+// What the operations have in common: an answer with no new number, and the name of the ticket asked for.
 ghost use mathlib.Core.Path.{_≡_};
-ghost use Rattle.machine.specs.State.{askedName};
-ghost use Rattle.served.specs.Outcomes.{answered};
+ghost use Rattle.machine.specs.State.{answerOf, askedName};
 use machine::Answer;
 use machine::Request;
-use machine::Served;
 use tables::Name;
-use tables::Tables;
 
-// The tables, and an answer with no new number.
-pub fn answer(t: Tables, result: u16) -> Served
-    ensures { λ d. ⌜ d ≡ answered t result ⌝ }
+pub fn plain(result: u16) -> Answer
+    ensures { λ a. ⌜ a ≡ answerOf result 0 0 ⌝ }
 {
-    let answer = Answer {
+    Answer {
         result: result,
         ticket: 0,
         recipient: 0,
-    };
-    Served {
-        answer: answer,
-        tables: t,
     }
 }
 

@@ -4,7 +4,7 @@ ghost use Rattle.tables.specs.Names.{emptyTables};
 ghost use Rattle.machine.specs.Dock.{dockCheck};
 ghost use Rattle.machine.specs.Step.{step};
 ghost use Rattle.machine.specs.Empty.{emptied};
-ghost use Rattle.served.specs.Outcomes.{stateOf};
+ghost use Rattle.served.specs.Outcomes.{stateOf, plainly};
 ghost use Rattle.serve.specs.Contract.{HandsBack};
 ghost use Rattle.step.specs.Contract.{Empties};
 use machine::Request;
@@ -16,11 +16,12 @@ use tables::Program;
 use tables::Tables;
 use tables::Ticket;
 
-// Bytes of the store.
+// Bytes of the store, of a sheet and of the tables' image.
 const STORE: usize = 16384;
 
-// Bytes of a sheet.
 const SHEET: usize = 64;
+
+const TABLES: usize = 11328;
 
 // ---- emptying
 
@@ -68,20 +69,38 @@ pub fn empty(store: &mut [u8]) -> Emptied
 
 // ---- the step
 
-// 13, 14, 1, 2, 3, then the operation.
+// The tables as they came, and an answer with no new number.
+fn kept(t: Tables, result: u16) -> Served
+    ensures { λ d. ⌜ d ≡ record { answer = plainly result; tables = t } ⌝ }
+{
+    let answer = served::plain(result);
+    Served {
+        answer: answer,
+        tables: t,
+    }
+}
+
+// 13, 14, 1, 2, 3, then the operation. The tables are written as their image, and what the inner step leaves there is read.
 pub fn step(t: Tables, store: &mut [u8], sheet: &mut [u8], r: Request) -> Served
     ensures { λ d. ⌜ HandsBack (step (stateOf t (now (store .entry)) (now (sheet .entry))) r) d (now (store .exit)) (now (sheet .exit)) ⌝ }
 {
     if store.len() != STORE {
-        return served::answer(t, 13);
+        return kept(t, 13);
     }
     if sheet.len() != SHEET {
-        return served::answer(t, 13);
+        return kept(t, 13);
     }
-    if !order::in_order(t) {
-        return served::answer(t, 14);
+    let mut image = [0u8; TABLES];
+    encode::tables(&mut image, t);
+    if !order::image_in_order(&image) {
+        return kept(t, 14);
     }
-    serve::request(t, store, sheet, r)
+    let answer = serve::request(&mut image, store, sheet, r);
+    let left = decode::tables(&image);
+    Served {
+        answer: answer,
+        tables: left,
+    }
 }
 
 // ---- the dock's own check
@@ -90,10 +109,11 @@ pub fn step(t: Tables, store: &mut [u8], sheet: &mut [u8], r: Request) -> Served
 pub fn check(t: Tables, n: Name, sheet: u16, right: u16) -> u16
     ensures { λ r. ⌜ r ≡ dockCheck t n sheet right ⌝ }
 {
-    if !order::in_order(t) {
+    let mut image = [0u8; TABLES];
+    encode::tables(&mut image, t);
+    if !order::image_in_order(&image) {
         return 14;
     }
-    let es = t.entries;
-    let e = dock::entry_in(es, n);
+    let e = lookup::entry(&image, n);
     dock::check(e, sheet as usize, right)
 }

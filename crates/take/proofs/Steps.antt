@@ -7,10 +7,10 @@ use mathlib.Core.List.{List}
 use borrow.Author.Tests.{le-leb, lt-leb}
 use Rattle.rights.specs.declared.Rights.{Rights}
 use Rattle.rights.specs.Rules.{rightsOf}
-use Rattle.tables.specs.declared.{Name.Name, Ticket.Ticket, Pad.Pad, Entry.Entry, Tables.Tables}
+use Rattle.tables.specs.declared.{Name.Name, Ticket.Ticket, Entry.Entry, Tables.Tables}
 use Rattle.tables.specs.declared.Kind.the-variants.{Taken}
 use Rattle.tables.specs.Names.{nameOf, noName, headTicket, entryFor}
-use Rattle.tables.specs.Lookup.{padAt, lastOf}
+use Rattle.tables.specs.Lookup.{lastOf}
 use Rattle.tables.specs.Sheets.{lowestRun}
 use Rattle.tables.specs.Change.{hasPlace, give, putEntry}
 use Rattle.machine.specs.declared.Request.{Request}
@@ -19,11 +19,9 @@ use Rattle.machine.specs.Refusal.{_when_else_, isSpent}
 use Rattle.machine.specs.Operation.{taking, operationOf}
 use Rattle.machine.specs.Take.{takeRefusal, takeTables, afterTake}
 use Rattle.machine.specs.Step.{ownRefusal, afterOwn, serve}
-use Rattle.pads.specs.OnePad.{givePad, withPad}
-use Rattle.pads.proofs.Laws.{give-pad}
 use Rattle.free_run.proofs.Laws.{run-found, no-run-found}
 use Rattle.request.proofs.Numbers.{op-take}
-use Rattle.served.specs.Outcomes.{stateOf, outcomeOf, answered}
+use Rattle.served.specs.Outcomes.{stateOf, outcomeOf, plainly}
 use Rattle.served.specs.Ready.{Asks}
 use Rattle.served.proofs.Laws.{served-done, served-refused}
 
@@ -40,7 +38,7 @@ own t r e = e
 after : (t : Tables) (store : List ℕ) (r : Request) (first : ℕ) → first ≡ lowestRun (t .entries) (r .count)
     → (number : ℕ) → number ≡ suc (lastOf t (r .pad) (r .program)) → (u : Tables)
     → u ≡ takenAt t (nameOf (r .pad) (r .program) number) first (r .count) (rightsOf (r .rights)) → (sheet : List ℕ)
-    → outcomeOf (record { answer = answerOf 0 number 0; tables = u }) (clearSheets first (r .count) store) sheet ≡ afterOwn taking (stateOf t store sheet) r
+    → outcomeOf (answerOf 0 number 0) u (clearSheets first (r .count) store) sheet ≡ afterOwn taking (stateOf t store sheet) r
 unfolding afterOwn afterTake accepted takeTables takenAt
 after t store r first e number m u v sheet =
     let w : u ≡ takeTables t r
@@ -55,21 +53,21 @@ module _ (t : Tables) (store : List ℕ) (r : Request) (asks : Asks 1 r) where
   op = op-take (r .op) (asks .number)
 
   refuses : (n : ℕ) → takeRefusal t r ≡ n → (n ≡ 0 → ⊥) → (n ≡ 12 → ⊥) → (sheet : List ℕ)
-      → outcomeOf (answered t n) store sheet ≡ serve (stateOf t store sheet) r
+      → outcomeOf (plainly n) t store sheet ≡ serve (stateOf t store sheet) r
   unfolding ownRefusal
   refuses n e ne ne′ sheet = served-refused t store sheet r (asks .early) taking op n e ne ne′
 
-  pub no-place : hasPlace t (r .pad) (r .program) ≡ false → (sheet : List ℕ) → outcomeOf (answered t 9) store sheet ≡ serve (stateOf t store sheet) r
+  pub no-place : hasPlace t (r .pad) (r .program) ≡ false → (sheet : List ℕ) → outcomeOf (plainly 9) t store sheet ≡ serve (stateOf t store sheet) r
   unfolding takeRefusal _when_else_
   no-place h = refuses 9 (rw h) (λ z. omega (arith, z)) (λ z. omega (arith, z))
 
   module _ (place : hasPlace t (r .pad) (r .program) ≡ true) where
-    pub spent : 65535 ≤ lastOf t (r .pad) (r .program) → (sheet : List ℕ) → outcomeOf (answered t 10) store sheet ≡ serve (stateOf t store sheet) r
+    pub spent : 65535 ≤ lastOf t (r .pad) (r .program) → (sheet : List ℕ) → outcomeOf (plainly 10) t store sheet ≡ serve (stateOf t store sheet) r
     unfolding takeRefusal _when_else_ isSpent
     spent h = refuses 10 (rw (place, le-leb 65535 (lastOf t (r .pad) (r .program)) h)) (λ z. omega (arith, z)) (λ z. omega (arith, z))
 
     module _ (left : lastOf t (r .pad) (r .program) < 65535) (first : ℕ) (e : first ≡ lowestRun (t .entries) (r .count)) where
-      pub no-run : 256 ≤ first → (sheet : List ℕ) → outcomeOf (answered t 11) store sheet ≡ serve (stateOf t store sheet) r
+      pub no-run : 256 ≤ first → (sheet : List ℕ) → outcomeOf (plainly 11) t store sheet ≡ serve (stateOf t store sheet) r
       unfolding takeRefusal _when_else_ isSpent
       no-run h =
           refuses 11
@@ -80,20 +78,19 @@ module _ (t : Tables) (store : List ℕ) (r : Request) (asks : Asks 1 r) where
       unfolding takeRefusal _when_else_ isSpent
       passes h = rw (place, lt-leb 65535 (lastOf t (r .pad) (r .program)) left, run-found (t .entries) (r .count) (omega (arith, h, e)))
 
-      -- the pad and the entry that the code has made
+      -- the ticket and the entry that the code has made
       pub taken : first < 256 → (number : ℕ) → number ≡ suc (lastOf t (r .pad) (r .program))
           → {k : Ticket} → k ≡ headTicket Taken (nameOf (r .pad) (r .program) number) first (r .count) (rightsOf (r .rights))
           → {none : Name} → none ≡ noName
           → {e : Entry} → e ≡ entryFor (nameOf (r .pad) (r .program) number) none first (r .count) (rightsOf (r .rights))
-          → {given : Pad} → given ≡ givePad (padAt t (r .pad)) (r .program) k → {u : Tables} → u ≡ putEntry (withPad t (r .pad) given) e
-          → (sheet : List ℕ)
-          → outcomeOf (record { answer = answerOf 0 number 0; tables = u }) (clearSheets first (r .count) store) sheet ≡ serve (stateOf t store sheet) r
+          → {u : Tables} → u ≡ putEntry (give t (r .pad) (r .program) k) e → (sheet : List ℕ)
+          → outcomeOf (answerOf 0 number 0) u (clearSheets first (r .count) store) sheet ≡ serve (stateOf t store sheet) r
       unfolding takenAt
-      taken h number m {k} made none entered given v sheet =
+      taken h number m {k} made none entered v sheet =
           let n : Name = nameOf (r .pad) (r .program) number in
           after t store r first e number m _
-          (v ∙ (λ i. putEntry (withPad t (r .pad) (given i)) (entered i))
-          ∙ (λ i. putEntry (give-pad t (r .pad) (r .program) k i) (entryFor n (none i) first (r .count) (rightsOf (r .rights))))
-          ∙ (λ i. putEntry (give t (r .pad) (r .program) (made i)) (entryFor n noName first (r .count) (rightsOf (r .rights)))))
+          (v
+          ∙ (λ i. putEntry (give t (r .pad) (r .program) (made i)) (entered i))
+          ∙ (λ i. putEntry (give t (r .pad) (r .program) (headTicket Taken n first (r .count) (rightsOf (r .rights)))) (entryFor n (none i) first (r .count) (rightsOf (r .rights)))))
           sheet
           ∙ served-done t store sheet r (asks .early) taking op (own t r (passes h))

@@ -10,7 +10,8 @@ use lib.ListN.{length, getD, take, drop, replicate, length-replicate, length-app
 use lib.Seq.{drop-drop}
 use Rattle.lists.proofs.Search.{first-within}
 use Rattle.lists.proofs.Front.{rest-part}
-use Rattle.machine.specs.declared.{Request.Request, Served.Served}
+use Rattle.tables.specs.Lookup.{Sized}
+use Rattle.machine.specs.declared.{Request.Request, Answer.Answer}
 use Rattle.machine.specs.State.{State, Outcome}
 use Rattle.machine.specs.Step.{serve}
 use Rattle.machine.specs.Empty.{emptied, emptyDock}
@@ -19,7 +20,9 @@ use Rattle.preservation.specs.InOrder.{DockOk}
 use Rattle.preservation.proofs.EmptyDockInOrder.{emptying-leaves}
 use Rattle.preservation.proofs.StepKeepsOrder.{step-is-serve, step-keeps, empty-dock-ok}
 use Rattle.served.specs.Outcomes.{stateOf}
-use Rattle.serve.specs.Contract.{HandsBack}
+use Rattle.image.specs.Image.{encode, decode}
+use Rattle.order.proofs.Written.{written-back}
+use Rattle.serve.specs.Contract.{LeavesLent}
 use Rattle.step.specs.declared.Emptied.{Emptied}
 use Rattle.step.specs.Contract.{Empties}
 use Rattle.text.specs.Bytes.{lineEnd}
@@ -59,14 +62,16 @@ begins input start out short behind inside = record {
   rest = λ after r a. a;
 }
 
--- emptying left the dock
-pub emptied-dock : (zeros : List ℕ) (d : Emptied) (store : List ℕ) → length zeros ≡ 16384 → Empties (emptied zeros) d store
-    → stateOf (d .tables) store (replicate 64 0) ≡ emptyDock
+-- emptying left the dock, and the image of its tables is written
+pub emptied-dock : (zeros : List ℕ) (d : Emptied) (image store : List ℕ) → length zeros ≡ 16384 → Empties (emptied zeros) d store
+    → image ≡ encode (d .tables) → stateOf (decode image) store (replicate 64 0) ≡ emptyDock
 unfolding emptyDock
-emptied-dock zeros d store whole e =
+emptied-dock zeros d image store whole e put =
     let left = emptying-leaves zeros whole in
+    let empty = e .tables ∙ (λ j. left j .tables) in
+    let sized : Sized (d .tables) = subst Sized (sym empty) (empty-dock-ok .tables .order .shape .sized) in
     λ i. record {
-      tables = (e .tables ∙ (λ j. left j .tables)) i;
+      tables = (written-back (d .tables) image put sized ∙ empty) i;
       store = (e .store ∙ (λ j. left j .store)) i;
       sheet = replicate 64 0;
     }
@@ -172,21 +177,21 @@ module _ (input : List ℕ) (start : ℕ) (before out : List ℕ) (s : State) (a
       other-line out′ total′ e put = other-next out′ total′ (sym (reads .formed) ∙ e) put
 
       -- the sheet was filled, the request served by the inner step, the first byte found, the answer put down
-      pub served-line : (filled : List ℕ) (d : Served) (store sheet : List ℕ) (byte : ℕ) (out′ : List ℕ) (total′ : ℕ) → a .formed ≡ true
+      pub served-line : (filled : List ℕ) (answer : Answer) (image store sheet : List ℕ) (byte : ℕ) (out′ : List ℕ) (total′ : ℕ) → a .formed ≡ true
           → filled ≡ replicate (length (s .sheet)) (a .fill)
-          → HandsBack (serve (stateOf (s .tables) (s .store) filled) (a .request)) d store sheet → length sheet ≡ 64
-          → byte ≡ cond (eqb (a .request .op) 5 && eqb (d .answer .result) 0) (getD sheet 0 0) 0
-          → Appends (answerLine (number + 1) (d .answer) byte) out out′ total total′
-          → Going input start before out′ (stateOf (d .tables) store sheet) (at + k + 1) (number + 1) total′
+          → LeavesLent (serve (stateOf (s .tables) (s .store) filled) (a .request)) answer image store sheet → length sheet ≡ 64
+          → byte ≡ cond (eqb (a .request .op) 5 && eqb (answer .result) 0) (getD sheet 0 0) 0
+          → Appends (answerLine (number + 1) answer byte) out out′ total total′
+          → Going input start before out′ (stateOf (decode image) store sheet) (at + k + 1) (number + 1) total′
       unfolding sentBy firstByte
-      served-line filled d store sheet byte out′ total′ e fill hands long b put =
+      served-line filled answer image store sheet byte out′ total′ e fill leaves long b put =
           let formed : inForm lineHere ≡ true = sym (reads .formed) ∙ e in
           let sheet-is : filled ≡ sentBy lineHere .sheet = fill ∙ (λ i. replicate (g .sheet i) (reads .fill formed i)) in
           let request-is : a .request ≡ sentBy lineHere .request = reads .request formed in
-          let h : HandsBack (servedBy s lineHere) d store sheet =
-          subst (λ (o : Outcome). HandsBack o d store sheet) (inner s lineHere (g .dock) filled (a .request) sheet-is request-is) hands in
+          let h : LeavesLent (servedBy s lineHere) answer image store sheet =
+          subst (λ (o : Outcome). LeavesLent o answer image store sheet) (inner s lineHere (g .dock) filled (a .request) sheet-is request-is) leaves in
           let byte-is : byte ≡ firstByte (sentBy lineHere .request) (servedBy s lineHere) =
           b ∙ (λ i. cond (eqb (request-is i .op) 5 && eqb (h .answer i .result) 0) (getD (h .sheet i) 0 0) 0) in
-          served-next out′ total′ (stateOf (d .tables) store sheet) formed
-          (λ i. record { tables = h .tables i; store = h .store i; sheet = h .sheet i }) long
+          served-next out′ total′ (stateOf (decode image) store sheet) formed
+          (λ i. record { tables = h .decoded i; store = h .store i; sheet = h .sheet i }) long
           (subst (λ (l : List ℕ). Appends l out out′ total total′) (λ i. answerLine (number + 1) (h .answer i) (byte-is i)) put)

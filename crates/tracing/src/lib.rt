@@ -1,4 +1,4 @@
-// The trace: a text of requests in, a text of answers out. It starts from an emptied dock and keeps the tables to itself, so it calls the
+// The trace: a text of requests in, a text of answers out. It starts from an emptied dock and keeps the tables' image to itself, so it calls the
 // inner step and pays for no order test; its contract speaks of the public one.
 ghost use Prim.Native.Nat.{_+_, _≤_};
 ghost use mathlib.Core.Path.{_≡_};
@@ -30,8 +30,10 @@ fn put_answers(input: &[u8], start: usize, out: &mut [u8]) -> usize
 {
     let mut store = [0u8; 16384];
     let mut sheet = [0u8; 64];
+    let mut image = [0u8; 11328];
     let emptied = step::empty(&mut store);
-    let mut t = emptied.tables;
+    let t = emptied.tables;
+    encode::tables(&mut image, t);
     let mut at = start;
     let mut number: u16 = 0;
     let mut total = NAMES;
@@ -43,9 +45,7 @@ fn put_answers(input: &[u8], start: usize, out: &mut [u8]) -> usize
         if a.formed {
             let r = a.request;
             trace_lines::fill_sheet(&mut sheet, a.fill);
-            let served = serve::request(t, &mut store, &mut sheet, r);
-            t = served.tables;
-            let answer = served.answer;
+            let answer = serve::request(&mut image, &mut store, &mut sheet, r);
             let byte = trace_lines::first_byte(r.op, answer.result, &sheet);
             total = trace_lines::put_answer(out, total, number, answer, byte);
         } else {

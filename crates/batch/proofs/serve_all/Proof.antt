@@ -6,7 +6,7 @@ use lib.ListN.{length-take, length-drop}
 use borrow.Author.Needs.{needs}
 use Rattle.lists.proofs.Front.{rest-part}
 use Rattle.image.specs.Image.{decode}
-use Rattle.lent.proofs.Steps.{image-whole}
+use Rattle.image.proofs.RoundTrip.{image-whole}
 use Rattle.batch.specs.Sequence.{startWith}
 use Rattle.batch.specs.Numbers.{requestIn, countOf}
 use Rattle.batch.proofs.Steps.{Going, begins, still-image, next, ends}

@@ -7,8 +7,9 @@ use Rattle.tables.specs.Names.{nameOf}
 use Rattle.machine.specs.Refusal.{_when_else_}
 use Rattle.machine.specs.Dock.{dockCheck}
 use Rattle.image.specs.Image.{decode}
-use Rattle.batch.proofs.Refusals.{passed, failed}
+use Rattle.batch.proofs.Refusals.{failed, is-image, is-in-order}
 use Rattle.host.specs.Host.{checkImage}
+use Rattle.host.proofs.Answers.{check-refused}
 use Rattle.host.proofs.dock_check.Statement.{statement}
 use Rattle.host.proofs.dock_check.Tie as tie
 
@@ -16,25 +17,15 @@ returns : tie.Need-returns
 unfolding checkImage dockCheck _when_else_
 returns c = rw (ne-eqb (length (c .before .before .args .tables .now)) 11328 (c .if1 .taken))
 
-is-image-requires : tie.Need-is-image-requires
-is-image-requires c κs = search needs
-
-returns-2 : tie.Need-returns-2
-unfolding checkImage dockCheck _when_else_
-returns-2 c =
-    let c4 = c .before .before .before .before in
-    rw (eq-eqb (length (c4 .args .tables .now)) 11328 (c .before .before .if1 .left), failed (c .before .is-image .ensures) (c .if2 .taken))
-
 image-in-order-requires : tie.Need-image-in-order-requires
 image-in-order-requires c κs = search needs
 
-returns-3 : tie.Need-returns-3
-unfolding checkImage dockCheck _when_else_
-returns-3 c =
-    let c3 = c .before .before .before in
-    let c4 = c3 .before in
-    let c6 = c4 .before .before in
-    rw (eq-eqb (length (c6 .args .tables .now)) 11328 (c4 .if1 .left), passed (c3 .is-image .ensures) (c .before .before .if2 .left), failed (c .before .image-in-order .ensures) (c .if3 .taken))
+returns-2 : tie.Need-returns-2
+returns-2 c =
+    let c4 = c .before .before .before .before in
+    let a = c4 .args in
+    check-refused (a .tables .now) (a .pad) (a .program) (a .number) (a .sheet) (a .right) (c .before .before .if1 .left)
+    (failed (c .before .image-in-order .ensures) (c .if2 .taken))
 
 entry-requires : tie.Need-entry-requires
 entry-requires c κs = search needs
@@ -42,27 +33,21 @@ entry-requires c κs = search needs
 check-requires : tie.Need-check-requires
 check-requires c κs = search needs
 
-returns-4 : tie.Need-returns-4
+returns-3 : tie.Need-returns-3
 unfolding checkImage dockCheck _when_else_
-returns-4 c =
+returns-3 c =
     let c3 = c .before .before .before in
     let c4 = c3 .before in
-    let c5 = c4 .before in
-    let c6 = c5 .before in
-    let c8 = c6 .before .before in
-    let a = c8 .args in
-    rw (eq-eqb (length (c8 .args .tables .now)) 11328 (c6 .if1 .left), passed (c5 .is-image .ensures) (c4 .if2 .left), passed (c3 .image-in-order .ensures) (c .before .before .if3 .left))
+    let c6 = c4 .before .before in
+    let a = c6 .args in
+    rw (
+      eq-eqb (length (a .tables .now)) 11328 (c4 .if1 .left),
+      is-image (a .tables .now) (c3 .image-in-order .ensures) (c .before .before .if2 .left),
+      is-in-order (a .tables .now) (c3 .image-in-order .ensures) (c .before .before .if2 .left),
+    )
     (c .check .ensures (decode (a .tables .now)) (nameOf (a .pad) (a .program) (a .number)) (sym (c .before .entry .ensures)))
 
 pub dock-check-spec : {M : Type 1} → statement M
 dock-check-spec =
     tie.close
-    (tie.spec
-    returns
-    is-image-requires
-    returns-2
-    image-in-order-requires
-    returns-3
-    entry-requires
-    check-requires
-    returns-4)
+    (tie.spec returns image-in-order-requires returns-2 entry-requires check-requires returns-3)

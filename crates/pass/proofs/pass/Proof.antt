@@ -1,375 +1,407 @@
-use Prim.Native.Nat.{suc, _+_}
 use native.Mathlib.Omega.{arith}
-use mathlib.Core.Path.{_≡_, refl, sym, ap, _∙_}
+use mathlib.Core.Path.{_≡_, sym, ap, _∙_}
+use Prim.Native.Nat.{_+_}
 use borrow.Author.Needs.{needs}
-use Rattle.tables.specs.declared.Tables.{Tables}
-use Rattle.tables.specs.Lookup.{padAt, lastOf}
-use Rattle.tables.proofs.Fits.{tables-fit, tables-sized}
-use Rattle.machine.specs.declared.Served.{Served}
+use Rattle.tables.specs.declared.{Ticket.Ticket, Tables.Tables}
 use Rattle.machine.specs.Operation.{passing}
-use Rattle.pads.specs.OnePad.{withPad}
-use Rattle.under.specs.Linked.{OnPad}
-use Rattle.dock.proofs.Laws.{put-here, put-nowhere}
-use Rattle.request.proofs.Laws.{sender-possible, pass-fields}
+use Rattle.image.specs.Image.{decode}
+use Rattle.image.proofs.RoundTrip.{image-whole}
+use Rattle.request.proofs.Laws.{sender-possible}
 use Rattle.request.proofs.Numbers.{op-pass}
-use Rattle.refusals.proofs.PassTests.{live-at, accepted-says, left-of, first-fits}
-use Rattle.served.specs.Outcomes.{outcomeOf, answered}
-use Rattle.served.proofs.Laws.{served-done, served-lost, served-refused, asked-in, lost-pad}
-use Rattle.pass.proofs.Steps.{lent-near, lent-far, own-pass, after-pass}
+use Rattle.served.specs.Outcomes.{outcomeOf, plainly}
+use Rattle.served.proofs.Laws.{served-done, served-lost, served-refused, leaves, stays, asked-found, lost, given-there}
+use Prim.Native.Nat.{suc}
+use mathlib.Core.Path.{refl, subst}
+use mathlib.Core.Bool.{true}
+use Rattle.tables.specs.Kinds.{isHead}
+use Rattle.tables.specs.Lookup.{lookup, lastOf}
+use Rattle.machine.specs.State.{askedName}
+use Rattle.request.proofs.Laws.{pass-fields}
+use Rattle.refusals.specs.Found.{Found}
+use Rattle.refusals.proofs.PassTests.{grant-at, accepted-says, left-of, first-fits}
+use Rattle.pass.proofs.Steps.{seat-of, lent-near, lent-far, own-pass, after-pass}
 use Rattle.pass.proofs.pass.Statement.{statement}
 use Rattle.pass.proofs.pass.Tie as tie
-
-cast-a : tie.Need-cast-a
-cast-a c = search needs
-
-cast-b : tie.Need-cast-b
-cast-b c = search needs
-
-mul-from : tie.Need-mul-from
-mul-from c = search needs
-
-element-copy-out-from : tie.Need-element-copy-out-from
-element-copy-out-from c =
-    omega (arith, (sender-possible (c .before .before .args .r) (c .before .before .pre .1 .early)) .pad)
-
-cast-p : tie.Need-cast-p
-cast-p c = search needs
-
-mul-p : tie.Need-mul-p
-mul-p c = search needs
-
-element-copy-out-p : tie.Need-element-copy-out-p
-element-copy-out-p c =
-    let c4 = c .before .before .before .before in
-    omega (arith, (sender-possible (c4 .args .r) (c4 .pre .1 .early)) .program)
-
-mul-to : tie.Need-mul-to
-mul-to c = search needs
-
-element-copy-out-to : tie.Need-element-copy-out-to
-element-copy-out-to c =
-    let c5 = c .before .before .before .before .before in
-    omega (arith, (pass-fields (c5 .args .r) (c5 .pre .1 .early) (c5 .pre .1 .number)) .recipient .pad)
-
-cast-q : tie.Need-cast-q
-cast-q c = search needs
-
-mul-q : tie.Need-mul-q
-mul-q c = search needs
-
-element-copy-out-q : tie.Need-element-copy-out-q
-element-copy-out-q c =
-    let c7 = c .before .before .before .before .before .before .before in
-    omega (arith, (pass-fields (c7 .args .r) (c7 .pre .1 .early) (c7 .pre .1 .number)) .recipient .program)
-
-find-requires : tie.Need-find-requires
-find-requires c κs = search needs
-
-entry-in-requires : tie.Need-entry-in-requires
-entry-in-requires c κs = search needs
-
-pass-requires : tie.Need-pass-requires
-pass-requires c κs = search needs
 
 asked-name-requires : tie.Need-asked-name-requires
 asked-name-requires c κs = search needs
 
+ticket-requires : tie.Need-ticket-requires
+ticket-requires c κs =
+    let c3 = c .before .before .before in
+    image-whole (c3 .args .image .now) (c3 .pre .0)
+
+entry-requires : tie.Need-entry-requires
+entry-requires c κs =
+    let c6 = c .before .before .before .before .before .before in
+    image-whole (c6 .args .image .now) (c6 .pre .0)
+
+cast-here : tie.Need-cast-here
+cast-here c = search needs
+
+mul-here : tie.Need-mul-here
+mul-here c = search needs
+
+cast-here-2 : tie.Need-cast-here-2
+cast-here-2 c = search needs
+
+add-here : tie.Need-add-here
+add-here c = search needs
+
+cast-there : tie.Need-cast-there
+cast-there c = search needs
+
+mul-there : tie.Need-mul-there
+mul-there c = search needs
+
+cast-there-2 : tie.Need-cast-there-2
+cast-there-2 c = search needs
+
+add-there : tie.Need-add-there
+add-there c = search needs
+
+seat-requires : tie.Need-seat-requires
+seat-requires c κs =
+    let c12 = c .before .before .before .before .before .before .before .before .before .before .before .before in
+    let possible = sender-possible (c12 .args .r) (c12 .pre .1 .1 .early) in
+    (image-whole (c12 .args .image .now) (c12 .pre .0), omega (arith, possible .pad, possible .program))
+
+seat-requires-2 : tie.Need-seat-requires-2
+seat-requires-2 c κs =
+    let c14 = c .before .before .before .before .before .before .before .before .before .before .before .before .before .before in
+    let possible = pass-fields (c14 .args .r) (c14 .pre .1 .1 .early) (c14 .pre .1 .1 .number) .recipient in
+    (image-whole (c14 .args .image .now) (c14 .pre .0), omega (arith, possible .pad, possible .program))
+
+pass-requires : tie.Need-pass-requires
+pass-requires c κs = search needs
+
 drop-head-requires : tie.Need-drop-head-requires
-drop-head-requires c κs = search needs
+drop-head-requires c κs =
+    let c3 = c .before .before .before in
+    let c5 = c3 .before .before in
+    let c11 = c5 .before .before .before .before .before .before in
+    let c14 = c11 .before .before .before in
+    let c16 = c14 .before .before in
+    let c18 = c16 .before .before in
+    let t = decode (c18 .args .image .now) in
+    let r = c18 .args .r in
+    let early = c18 .pre .1 .1 .early in
+    let fields = pass-fields r early (c18 .pre .1 .1 .number) in
+    let found = asked-found t r (c16 .asked-name .result) (c14 .ticket .result) (c16 .asked-name .ensures) (c14 .ticket .ensures) in
+    let all : Found t r (c14 .ticket .result) (c5 .seat .result) (c3 .seat2 .result) (c11 .entry .result) = record {
+      ticket = found;
+      asker = seat-of t (r .pad) (r .program) (omega (arith, sender-possible r early .program)) (c5 .seat .result) (c5 .seat .ensures);
+      recipient = seat-of t (r .topad) (r .toprogram) (omega (arith, fields .recipient .program)) (c3 .seat2 .result) (c3 .seat2 .ensures);
+      entry = sym (c11 .entry .ensures);
+    } in
+    let said = sym (c .before .before .pass .ensures t all) in
+    let ready = c18 .pre .1 .0 in
+    let head = ready .heads .kind (askedName r) (grant-at t r (said ∙ c .before .if1 .taken)) in
+    (c18 .pre .0, (ready .linked, (ready .heads, subst (λ (k : Ticket). isHead (lookup t (k .dock) .kind) ≡ true) found head)))
 
-mul-left : tie.Need-mul-left
-mul-left c = search needs
+plain-requires : tie.Need-plain-requires
+plain-requires c κs = search needs
 
-element-set-from-left : tie.Need-element-set-from-left
-element-set-from-left c =
-    let c16 = c .before .before .before .before .before .before .before .before .before .before .before .before .before .before .before .before in
-    omega (arith, (sender-possible (c16 .args .r) (c16 .pre .1 .early)) .pad)
-
-answer-requires : tie.Need-answer-requires
-answer-requires c κs = search needs
+same-length : tie.Need-same-length
+same-length c = search needs
 
 returns : tie.Need-returns
 returns c =
-    let c1 = c .before in
-    let c2 = c1 .before in
-    let c3 = c2 .before in
-    let c4 = c3 .before in
-    let c5 = c4 .before in
-    let c8 = c5 .before .before .before in
-    let c17 = c8 .before .before .before .before .before .before .before .before .before in
-    let t = c17 .args .t in
-    let r = c17 .args .r in
-    let k = asked-in t r ∙ sym (c8 .find .ensures) in
-    let said = sym
-    (c4 .pass .ensures t (record { ticket = k; asker = refl; recipient = refl; entry = sym (c5 .entry-in .ensures) })) in
-    let early = c17 .pre .1 .early in
-    let asks = op-pass (r .op) (c17 .pre .1 .number) in
-    let on : OnPad t (r .pad) (padAt t (r .pad)) = record {
-      sized = tables-sized t (tables-fit t (_, c17 .good .0));
-      linked = c17 .pre .0 .linked;
-      low = omega (arith, sender-possible r early .pad);
-      here = refl;
+    let c3 = c .before .before .before in
+    let c5 = c3 .before .before in
+    let c6 = c5 .before in
+    let c7 = c6 .before in
+    let c9 = c7 .before .before in
+    let c15 = c9 .before .before .before .before .before .before in
+    let c18 = c15 .before .before .before in
+    let c20 = c18 .before .before in
+    let c22 = c20 .before .before in
+    let t = decode (c22 .args .image .now) in
+    let r = c22 .args .r in
+    let early = c22 .pre .1 .1 .early in
+    let fields = pass-fields r early (c22 .pre .1 .1 .number) in
+    let found = asked-found t r (c20 .asked-name .result) (c18 .ticket .result) (c20 .asked-name .ensures) (c18 .ticket .ensures) in
+    let all : Found t r (c18 .ticket .result) (c9 .seat .result) (c7 .seat2 .result) (c15 .entry .result) = record {
+      ticket = found;
+      asker = seat-of t (r .pad) (r .program) (omega (arith, sender-possible r early .program)) (c9 .seat .result) (c9 .seat .ensures);
+      recipient = seat-of t (r .topad) (r .toprogram) (omega (arith, fields .recipient .program)) (c7 .seat2 .result) (c7 .seat2 .ensures);
+      entry = sym (c15 .entry .ensures);
     } in
-    let live = live-at t r 12 (said ∙ c3 .if1 .taken) (λ z. omega (arith, z)) in
-    let lost = lost-pad t r _ (c1 .drop-head .result) (c2 .asked-name .result) (c2 .asked-name .ensures) on live (c1 .drop-head .ensures) in
-    λ store sheet. ap (λ (d : Served). outcomeOf d store sheet) (c .answer .ensures) ∙ ap
-    (λ (u : Tables). outcomeOf (answered u 12) store sheet) lost ∙ served-lost t store sheet r early passing asks
-    (own-pass t r 12 (said ∙ c3 .if1 .taken))
+    let said = sym (c6 .pass .ensures t all) in
+    let op = op-pass (r .op) (c22 .pre .1 .1 .number) in
+    let gone = lost t r _ found (c22 .pre .1 .0 .heads) (grant-at t r (said ∙ c5 .if1 .taken)) in
+    λ store sheet. leaves (c3 .drop-head .ensures) (c .plain .ensures)
+    (ap (λ (u : Tables). outcomeOf (plainly 12) u store sheet) gone
+    ∙ served-lost t store sheet r early passing op (own-pass t r 12 (said ∙ c5 .if1 .taken)))
 
-answer-requires-2 : tie.Need-answer-requires-2
-answer-requires-2 c κs = search needs
+plain-requires-2 : tie.Need-plain-requires-2
+plain-requires-2 c κs = search needs
+
+same-length-2 : tie.Need-same-length-2
+same-length-2 c = search needs
 
 returns-2 : tie.Need-returns-2
 returns-2 c =
     let c3 = c .before .before .before in
     let c4 = c3 .before in
-    let c7 = c4 .before .before .before in
-    let c16 = c7 .before .before .before .before .before .before .before .before .before in
-    let t = c16 .args .t in
-    let r = c16 .args .r in
-    let k = asked-in t r ∙ sym (c7 .find .ensures) in
-    let said = sym (c3 .pass .ensures t (record { ticket = k; asker = refl; recipient = refl; entry = sym (c4 .entry-in .ensures) })) in
-    let early = c16 .pre .1 .early in
-    let asks = op-pass (r .op) (c16 .pre .1 .number) in
-    λ store sheet. ap (λ (d : Served). outcomeOf d store sheet) (c .answer2 .ensures) ∙ served-refused t store sheet r early passing asks
-    _ (own-pass t r _ said) (c .before .if2 .taken) (c .before .before .if1 .left)
+    let c6 = c4 .before .before in
+    let c12 = c6 .before .before .before .before .before .before in
+    let c15 = c12 .before .before .before in
+    let c17 = c15 .before .before in
+    let c19 = c17 .before .before in
+    let t = decode (c19 .args .image .now) in
+    let r = c19 .args .r in
+    let early = c19 .pre .1 .1 .early in
+    let fields = pass-fields r early (c19 .pre .1 .1 .number) in
+    let found = asked-found t r (c17 .asked-name .result) (c15 .ticket .result) (c17 .asked-name .ensures) (c15 .ticket .ensures) in
+    let all : Found t r (c15 .ticket .result) (c6 .seat .result) (c4 .seat2 .result) (c12 .entry .result) = record {
+      ticket = found;
+      asker = seat-of t (r .pad) (r .program) (omega (arith, sender-possible r early .program)) (c6 .seat .result) (c6 .seat .ensures);
+      recipient = seat-of t (r .topad) (r .toprogram) (omega (arith, fields .recipient .program)) (c4 .seat2 .result) (c4 .seat2 .ensures);
+      entry = sym (c12 .entry .ensures);
+    } in
+    let said = sym (c3 .pass .ensures t all) in
+    let op = op-pass (r .op) (c19 .pre .1 .1 .number) in
+    λ store sheet. stays (c19 .pre .0) (c .plain2 .ensures)
+    (served-refused t store sheet r early passing op _ (own-pass t r _ said) (c .before .if2 .taken) (c .before .before .if1 .left))
 
-add-t46 : tie.Need-add-t46
-add-t46 c =
+add-entry : tie.Need-add-entry
+add-entry c =
     let c3 = c .before .before .before in
     let c4 = c3 .before in
-    let c7 = c4 .before .before .before in
-    let c16 = c7 .before .before .before .before .before .before .before .before .before in
-    let t = c16 .args .t in
-    let r = c16 .args .r in
-    let k = asked-in t r ∙ sym (c7 .find .ensures) in
-    let said = sym (c3 .pass .ensures t (record { ticket = k; asker = refl; recipient = refl; entry = sym (c4 .entry-in .ensures) })) in
-    omega (arith, left-of t (r .topad) (r .toprogram) (accepted-says t r (said ∙ c .before .if2 .left) .other))
+    let c6 = c4 .before .before in
+    let c12 = c6 .before .before .before .before .before .before in
+    let c15 = c12 .before .before .before in
+    let c17 = c15 .before .before in
+    let c19 = c17 .before .before in
+    let t = decode (c19 .args .image .now) in
+    let r = c19 .args .r in
+    let early = c19 .pre .1 .1 .early in
+    let fields = pass-fields r early (c19 .pre .1 .1 .number) in
+    let found = asked-found t r (c17 .asked-name .result) (c15 .ticket .result) (c17 .asked-name .ensures) (c15 .ticket .ensures) in
+    let all : Found t r (c15 .ticket .result) (c6 .seat .result) (c4 .seat2 .result) (c12 .entry .result) = record {
+      ticket = found;
+      asker = seat-of t (r .pad) (r .program) (omega (arith, sender-possible r early .program)) (c6 .seat .result) (c6 .seat .ensures);
+      recipient = seat-of t (r .topad) (r .toprogram) (omega (arith, fields .recipient .program)) (c4 .seat2 .result) (c4 .seat2 .ensures);
+      entry = sym (c12 .entry .ensures);
+    } in
+    let said = sym (c3 .pass .ensures t all) in
+    let accepted = accepted-says t r (said ∙ c .before .if2 .left) in
+    omega (arith, left-of t (r .topad) (r .toprogram) (accepted .other), all .recipient .last)
 
-add-t46-2 : tie.Need-add-t46-2
-add-t46-2 c =
+add-entry-2 : tie.Need-add-entry-2
+add-entry-2 c =
     let c4 = c .before .before .before .before in
     let c5 = c4 .before in
-    let c8 = c5 .before .before .before in
-    let c17 = c8 .before .before .before .before .before .before .before .before .before in
-    let t = c17 .args .t in
-    let r = c17 .args .r in
-    let k = asked-in t r ∙ sym (c8 .find .ensures) in
-    let said = sym (c4 .pass .ensures t (record { ticket = k; asker = refl; recipient = refl; entry = sym (c5 .entry-in .ensures) })) in
-    omega (arith, left-of t (r .pad) (r .program) (accepted-says t r (said ∙ c .before .before .if2 .left) .own))
+    let c7 = c5 .before .before in
+    let c13 = c7 .before .before .before .before .before .before in
+    let c16 = c13 .before .before .before in
+    let c18 = c16 .before .before in
+    let c20 = c18 .before .before in
+    let t = decode (c20 .args .image .now) in
+    let r = c20 .args .r in
+    let early = c20 .pre .1 .1 .early in
+    let fields = pass-fields r early (c20 .pre .1 .1 .number) in
+    let found = asked-found t r (c18 .asked-name .result) (c16 .ticket .result) (c18 .asked-name .ensures) (c16 .ticket .ensures) in
+    let all : Found t r (c16 .ticket .result) (c7 .seat .result) (c5 .seat2 .result) (c13 .entry .result) = record {
+      ticket = found;
+      asker = seat-of t (r .pad) (r .program) (omega (arith, sender-possible r early .program)) (c7 .seat .result) (c7 .seat .ensures);
+      recipient = seat-of t (r .topad) (r .toprogram) (omega (arith, fields .recipient .program)) (c5 .seat2 .result) (c5 .seat2 .ensures);
+      entry = sym (c13 .entry .ensures);
+    } in
+    let said = sym (c4 .pass .ensures t all) in
+    let accepted = accepted-says t r (said ∙ c .before .before .if2 .left) in
+    omega (arith, left-of t (r .pad) (r .program) (accepted .own), all .asker .last)
 
 recall-requires : tie.Need-recall-requires
 recall-requires c κs = search needs
 
-cast-give : tie.Need-cast-give
-cast-give c = search needs
-
 give-requires : tie.Need-give-requires
 give-requires c κs =
-    let c19 = c .before .before .before .before .before .before .before .before .before .before .before .before .before .before .before .before .before .before .before in
-    omega (arith, (sender-possible (c19 .args .r) (c19 .pre .1 .early)) .program)
-
-mul-lent : tie.Need-mul-lent
-mul-lent c = search needs
-
-element-set-from-lent : tie.Need-element-set-from-lent
-element-set-from-lent c =
-    let c20 = c .before .before .before .before .before .before .before .before .before .before .before .before .before .before .before .before .before .before .before .before in
-    omega (arith, (sender-possible (c20 .args .r) (c20 .pre .1 .early)) .pad)
+    let c22 = c .before .before .before .before .before .before .before .before .before .before .before .before .before .before .before .before .before .before .before .before .before .before in
+    let possible = sender-possible (c22 .args .r) (c22 .pre .1 .1 .early) in
+    (c22 .pre .0, omega (arith, possible .pad, possible .program))
 
 granted-requires : tie.Need-granted-requires
 granted-requires c κs =
-    let c5 = c .before .before .before .before .before in
-    let c7 = c5 .before .before in
-    let c8 = c7 .before in
-    let c11 = c8 .before .before .before in
-    let c20 = c11 .before .before .before .before .before .before .before .before .before in
-    let t = c20 .args .t in
-    let r = c20 .args .r in
-    let k = asked-in t r ∙ sym (c11 .find .ensures) in
-    let said = sym (c7 .pass .ensures t (record { ticket = k; asker = refl; recipient = refl; entry = sym (c8 .entry-in .ensures) })) in
-    omega (
-      arith,
-      first-fits t r _ k (c20 .pre .0 .span) (accepted-says t r (said ∙ c5 .if2 .left)),
-      (pass-fields (c20 .args .r) (c20 .pre .1 .early) (c20 .pre .1 .number)) .first,
-    )
-
-mul-there : tie.Need-mul-there
-mul-there c = search needs
-
-element-copy-out-there : tie.Need-element-copy-out-there
-element-copy-out-there c =
-    let c21 = c .before .before .before .before .before .before .before .before .before .before .before .before .before .before .before .before .before .before .before .before .before in
-    omega (arith, (pass-fields (c21 .args .r) (c21 .pre .1 .early) (c21 .pre .1 .number)) .recipient .pad)
-
-cast-give-2 : tie.Need-cast-give-2
-cast-give-2 c = search needs
+    let c7 = c .before .before .before .before .before .before .before in
+    let c9 = c7 .before .before in
+    let c10 = c9 .before in
+    let c12 = c10 .before .before in
+    let c18 = c12 .before .before .before .before .before .before in
+    let c21 = c18 .before .before .before in
+    let c23 = c21 .before .before in
+    let c25 = c23 .before .before in
+    let t = decode (c25 .args .image .now) in
+    let r = c25 .args .r in
+    let early = c25 .pre .1 .1 .early in
+    let fields = pass-fields r early (c25 .pre .1 .1 .number) in
+    let found = asked-found t r (c23 .asked-name .result) (c21 .ticket .result) (c23 .asked-name .ensures) (c21 .ticket .ensures) in
+    let all : Found t r (c21 .ticket .result) (c12 .seat .result) (c10 .seat2 .result) (c18 .entry .result) = record {
+      ticket = found;
+      asker = seat-of t (r .pad) (r .program) (omega (arith, sender-possible r early .program)) (c12 .seat .result) (c12 .seat .ensures);
+      recipient = seat-of t (r .topad) (r .toprogram) (omega (arith, fields .recipient .program)) (c10 .seat2 .result) (c10 .seat2 .ensures);
+      entry = sym (c18 .entry .ensures);
+    } in
+    let said = sym (c9 .pass .ensures t all) in
+    let accepted = accepted-says t r (said ∙ c7 .if2 .left) in
+    omega (arith, first-fits t r _ found (c25 .pre .1 .0 .span) accepted, fields .first)
 
 give-requires-2 : tie.Need-give-requires-2
 give-requires-2 c κs =
-    let c23 = c .before .before .before .before .before .before .before .before .before .before .before .before .before .before .before .before .before .before .before .before .before .before .before in
-    omega (arith, (pass-fields (c23 .args .r) (c23 .pre .1 .early) (c23 .pre .1 .number)) .recipient .program)
+    let c4 = c .before .before .before .before in
+    let c27 = c4 .before .before .before .before .before .before .before .before .before .before .before .before .before .before .before .before .before .before .before .before .before .before .before in
+    let possible = pass-fields (c27 .args .r) (c27 .pre .1 .1 .early) (c27 .pre .1 .1 .number) .recipient in
+    (c4 .give .ensures .is, omega (arith, possible .pad, possible .program))
 
-mul-given : tie.Need-mul-given
-mul-given c = search needs
-
-element-set-from-given : tie.Need-element-set-from-given
-element-set-from-given c =
-    let c24 = c .before .before .before .before .before .before .before .before .before .before .before .before .before .before .before .before .before .before .before .before .before .before .before .before in
-    omega (arith, (pass-fields (c24 .args .r) (c24 .pre .1 .early) (c24 .pre .1 .number)) .recipient .pad)
-
-add-entry : tie.Need-add-entry
-add-entry c =
-    let c13 = c .before .before .before .before .before .before .before .before .before .before .before .before .before in
-    let c15 = c13 .before .before in
-    let c16 = c15 .before in
-    let c19 = c16 .before .before .before in
-    let c28 = c19 .before .before .before .before .before .before .before .before .before in
-    let t = c28 .args .t in
-    let r = c28 .args .r in
-    let k = asked-in t r ∙ sym (c19 .find .ensures) in
-    let said = sym (c15 .pass .ensures t (record { ticket = k; asker = refl; recipient = refl; entry = sym (c16 .entry-in .ensures) })) in
-    omega (
-      arith,
-      first-fits t r _ k (c28 .pre .0 .span) (accepted-says t r (said ∙ c13 .if2 .left)),
-      (pass-fields (c28 .args .r) (c28 .pre .1 .early) (c28 .pre .1 .number)) .first,
-    )
-
-entry-requires : tie.Need-entry-requires
-entry-requires c κs = search needs
-
-spare-place-requires : tie.Need-spare-place-requires
-spare-place-requires c κs = search needs
-
-mul-entry : tie.Need-mul-entry
-mul-entry c = search needs
-
-element-set-from-entry : tie.Need-element-set-from-entry
-element-set-from-entry c = search needs
+same-length-3 : tie.Need-same-length-3
+same-length-3 c = search needs
 
 returns-3 : tie.Need-returns-3
 returns-3 c =
-    let c3 = c .before .before .before in
-    let c6 = c3 .before .before .before in
-    let c8 = c6 .before .before in
-    let c11 = c8 .before .before .before in
-    let c12 = c11 .before in
-    let c14 = c12 .before .before in
-    let c17 = c14 .before .before .before in
+    let c4 = c .before .before .before .before in
+    let c6 = c4 .before .before in
+    let c9 = c6 .before .before .before in
+    let c11 = c9 .before .before in
+    let c14 = c11 .before .before .before in
+    let c16 = c14 .before .before in
+    let c17 = c16 .before in
     let c19 = c17 .before .before in
-    let c20 = c19 .before in
-    let c23 = c20 .before .before .before in
-    let c32 = c23 .before .before .before .before .before .before .before .before .before in
-    let t = c32 .args .t in
+    let c25 = c19 .before .before .before .before .before .before in
+    let c28 = c25 .before .before .before in
+    let c30 = c28 .before .before in
+    let c32 = c30 .before .before in
+    let t = decode (c32 .args .image .now) in
     let r = c32 .args .r in
-    let k = asked-in t r ∙ sym (c23 .find .ensures) in
-    let said = sym (c19 .pass .ensures t (record { ticket = k; asker = refl; recipient = refl; entry = sym (c20 .entry-in .ensures) })) in
-    let early = c32 .pre .1 .early in
-    let asks = op-pass (r .op) (c32 .pre .1 .number) in
-    let own : lastOf t (r .pad) (r .program) + 1 ≡ suc (lastOf t (r .pad) (r .program)) = omega arith in
-    let other : lastOf t (r .topad) (r .toprogram) + 1 ≡ suc (lastOf t (r .topad) (r .toprogram)) = omega arith in
-    λ store sheet. after-pass t store sheet r _ _ own other _
-    (lent-far t r _ k _ own _ other (c14 .recall .ensures) (c12 .give .ensures) (c11 .granted .ensures) (c8 .give2 .ensures)
-    (c6 .if3 .taken) (c3 .entry .ensures)
-    (put-here (withPad (withPad t (r .pad) (c12 .give .result)) (r .topad) (c8 .give2 .result)) (c3 .entry .result) _
-    (c .before .spare-place .ensures))) ∙ served-done t store sheet r early passing asks (own-pass t r 0 (said ∙ c17 .if2 .left))
+    let early = c32 .pre .1 .1 .early in
+    let fields = pass-fields r early (c32 .pre .1 .1 .number) in
+    let found = asked-found t r (c30 .asked-name .result) (c28 .ticket .result) (c30 .asked-name .ensures) (c28 .ticket .ensures) in
+    let all : Found t r (c28 .ticket .result) (c19 .seat .result) (c17 .seat2 .result) (c25 .entry .result) = record {
+      ticket = found;
+      asker = seat-of t (r .pad) (r .program) (omega (arith, sender-possible r early .program)) (c19 .seat .result) (c19 .seat .ensures);
+      recipient = seat-of t (r .topad) (r .toprogram) (omega (arith, fields .recipient .program)) (c17 .seat2 .result) (c17 .seat2 .ensures);
+      entry = sym (c25 .entry .ensures);
+    } in
+    let said = sym (c16 .pass .ensures t all) in
+    let op = op-pass (r .op) (c32 .pre .1 .1 .number) in
+    let here = c9 .give .ensures .tables ∙ given-there (r .pad) (r .program) (omega (arith, sender-possible r early .program)) t (c11 .recall .result) in
+    let there = c4 .give2 .ensures .tables ∙ given-there (r .topad) (r .toprogram) (omega (arith, fields .recipient .program)) _ (c6 .granted .result) in
+    let own : c19 .seat .result .last + 1 ≡ suc (lastOf t (r .pad) (r .program)) = omega (arith, all .asker .last) in
+    let other : c17 .seat2 .result .last + 1 ≡ suc (lastOf t (r .topad) (r .toprogram)) = omega (arith, all .recipient .last) in
+    let lent = lent-near t r _ found _ own _ other (c11 .recall .ensures) here (c6 .granted .ensures) there (c .if3 .taken) in
+    λ store sheet. leaves (record { is = c4 .give2 .ensures .is; tables = lent }) refl
+    (after-pass t store sheet r _ _ own other _ refl ∙ served-done t store sheet r early passing op (own-pass t r 0 (said ∙ c14 .if2 .left)))
+
+add-entry-3 : tie.Need-add-entry-3
+add-entry-3 c =
+    let c16 = c .before .before .before .before .before .before .before .before .before .before .before .before .before .before .before .before in
+    let c18 = c16 .before .before in
+    let c19 = c18 .before in
+    let c21 = c19 .before .before in
+    let c27 = c21 .before .before .before .before .before .before in
+    let c30 = c27 .before .before .before in
+    let c32 = c30 .before .before in
+    let c34 = c32 .before .before in
+    let t = decode (c34 .args .image .now) in
+    let r = c34 .args .r in
+    let early = c34 .pre .1 .1 .early in
+    let fields = pass-fields r early (c34 .pre .1 .1 .number) in
+    let found = asked-found t r (c32 .asked-name .result) (c30 .ticket .result) (c32 .asked-name .ensures) (c30 .ticket .ensures) in
+    let all : Found t r (c30 .ticket .result) (c21 .seat .result) (c19 .seat2 .result) (c27 .entry .result) = record {
+      ticket = found;
+      asker = seat-of t (r .pad) (r .program) (omega (arith, sender-possible r early .program)) (c21 .seat .result) (c21 .seat .ensures);
+      recipient = seat-of t (r .topad) (r .toprogram) (omega (arith, fields .recipient .program)) (c19 .seat2 .result) (c19 .seat2 .ensures);
+      entry = sym (c27 .entry .ensures);
+    } in
+    let said = sym (c18 .pass .ensures t all) in
+    let accepted = accepted-says t r (said ∙ c16 .if2 .left) in
+    omega (arith, first-fits t r _ found (c34 .pre .1 .0 .span) accepted, fields .first)
+
+entry-requires-2 : tie.Need-entry-requires-2
+entry-requires-2 c κs = search needs
+
+make-requires : tie.Need-make-requires
+make-requires c κs =
+    let c8 = c .before .before .before .before .before .before .before .before in
+    c8 .give2 .ensures .is
+
+same-length-4 : tie.Need-same-length-4
+same-length-4 c =
+    let c39 = c .before .before .before .before .before .before .before .before .before .before .before .before .before .before .before .before .before .before .before .before .before .before .before .before .before .before .before .before .before .before .before .before .before .before .before .before .before .before .before in
+    image-whole _ (c .before .before .make .ensures .is) ∙ sym (image-whole (c39 .args .image .now) (c39 .pre .0))
 
 returns-4 : tie.Need-returns-4
 returns-4 c =
-    let c3 = c .before .before .before in
-    let c6 = c3 .before .before .before in
-    let c8 = c6 .before .before in
-    let c11 = c8 .before .before .before in
-    let c12 = c11 .before in
-    let c14 = c12 .before .before in
-    let c17 = c14 .before .before .before in
-    let c19 = c17 .before .before in
-    let c20 = c19 .before in
-    let c23 = c20 .before .before .before in
-    let c32 = c23 .before .before .before .before .before .before .before .before .before in
-    let t = c32 .args .t in
-    let r = c32 .args .r in
-    let k = asked-in t r ∙ sym (c23 .find .ensures) in
-    let said = sym (c19 .pass .ensures t (record { ticket = k; asker = refl; recipient = refl; entry = sym (c20 .entry-in .ensures) })) in
-    let early = c32 .pre .1 .early in
-    let asks = op-pass (r .op) (c32 .pre .1 .number) in
-    let own : lastOf t (r .pad) (r .program) + 1 ≡ suc (lastOf t (r .pad) (r .program)) = omega arith in
-    let other : lastOf t (r .topad) (r .toprogram) + 1 ≡ suc (lastOf t (r .topad) (r .toprogram)) = omega arith in
-    λ store sheet. after-pass t store sheet r _ _ own other _
-    (lent-far t r _ k _ own _ other (c14 .recall .ensures) (c12 .give .ensures) (c11 .granted .ensures) (c8 .give2 .ensures)
-    (c6 .if3 .taken) (c3 .entry .ensures)
-    (put-nowhere (withPad (withPad t (r .pad) (c12 .give .result)) (r .topad) (c8 .give2 .result)) (c3 .entry .result) _
-    (c .before .spare-place .ensures) (omega (arith, tables-fit t (_, c32 .good .0) .entries-long, c .if4 .left)))) ∙ served-done t store
-    sheet r early passing asks (own-pass t r 0 (said ∙ c17 .if2 .left))
-
-returns-5 : tie.Need-returns-5
-returns-5 c =
-    let c5 = c .before .before .before .before .before in
-    let c6 = c5 .before in
-    let c8 = c6 .before .before in
-    let c11 = c8 .before .before .before in
+    let c4 = c .before .before .before .before in
+    let c7 = c4 .before .before .before in
+    let c11 = c7 .before .before .before .before in
     let c13 = c11 .before .before in
-    let c14 = c13 .before in
-    let c17 = c14 .before .before .before in
-    let c26 = c17 .before .before .before .before .before .before .before .before .before in
-    let t = c26 .args .t in
-    let r = c26 .args .r in
-    let k = asked-in t r ∙ sym (c17 .find .ensures) in
-    let said = sym (c13 .pass .ensures t (record { ticket = k; asker = refl; recipient = refl; entry = sym (c14 .entry-in .ensures) })) in
-    let early = c26 .pre .1 .early in
-    let asks = op-pass (r .op) (c26 .pre .1 .number) in
-    let own : lastOf t (r .pad) (r .program) + 1 ≡ suc (lastOf t (r .pad) (r .program)) = omega arith in
-    let other : lastOf t (r .topad) (r .toprogram) + 1 ≡ suc (lastOf t (r .topad) (r .toprogram)) = omega arith in
-    λ store sheet. after-pass t store sheet r _ _ own other _
-    (lent-near t r _ k _ own _ other (c8 .recall .ensures) (c6 .give .ensures) (c5 .granted .ensures) (c .before .before .give2 .ensures)
-    (c .if3 .left)) ∙ served-done t store sheet r early passing asks (own-pass t r 0 (said ∙ c11 .if2 .left))
+    let c16 = c13 .before .before .before in
+    let c18 = c16 .before .before in
+    let c21 = c18 .before .before .before in
+    let c23 = c21 .before .before in
+    let c24 = c23 .before in
+    let c26 = c24 .before .before in
+    let c32 = c26 .before .before .before .before .before .before in
+    let c35 = c32 .before .before .before in
+    let c37 = c35 .before .before in
+    let c39 = c37 .before .before in
+    let t = decode (c39 .args .image .now) in
+    let r = c39 .args .r in
+    let early = c39 .pre .1 .1 .early in
+    let fields = pass-fields r early (c39 .pre .1 .1 .number) in
+    let found = asked-found t r (c37 .asked-name .result) (c35 .ticket .result) (c37 .asked-name .ensures) (c35 .ticket .ensures) in
+    let all : Found t r (c35 .ticket .result) (c26 .seat .result) (c24 .seat2 .result) (c32 .entry .result) = record {
+      ticket = found;
+      asker = seat-of t (r .pad) (r .program) (omega (arith, sender-possible r early .program)) (c26 .seat .result) (c26 .seat .ensures);
+      recipient = seat-of t (r .topad) (r .toprogram) (omega (arith, fields .recipient .program)) (c24 .seat2 .result) (c24 .seat2 .ensures);
+      entry = sym (c32 .entry .ensures);
+    } in
+    let said = sym (c23 .pass .ensures t all) in
+    let op = op-pass (r .op) (c39 .pre .1 .1 .number) in
+    let here = c16 .give .ensures .tables ∙ given-there (r .pad) (r .program) (omega (arith, sender-possible r early .program)) t (c18 .recall .result) in
+    let there = c11 .give2 .ensures .tables ∙ given-there (r .topad) (r .toprogram) (omega (arith, fields .recipient .program)) _ (c13 .granted .result) in
+    let own : c26 .seat .result .last + 1 ≡ suc (lastOf t (r .pad) (r .program)) = omega (arith, all .asker .last) in
+    let other : c24 .seat2 .result .last + 1 ≡ suc (lastOf t (r .topad) (r .toprogram)) = omega (arith, all .recipient .last) in
+    let lent = lent-far t r _ found _ own _ other (c18 .recall .ensures) here (c13 .granted .ensures) there (c7 .if3 .left) (c4 .entry2 .ensures) (c .before .before .make .ensures .tables) in
+    λ store sheet. leaves (record { is = c .before .before .make .ensures .is; tables = lent }) refl
+    (after-pass t store sheet r _ _ own other _ refl ∙ served-done t store sheet r early passing op (own-pass t r 0 (said ∙ c21 .if2 .left)))
 
 pub pass-spec : {M : Type 1} → statement M
 pass-spec =
     tie.close
     (tie.spec
-    cast-a
-    cast-b
-    mul-from
-    element-copy-out-from
-    cast-p
-    mul-p
-    element-copy-out-p
-    mul-to
-    element-copy-out-to
-    cast-q
-    mul-q
-    element-copy-out-q
-    find-requires
-    entry-in-requires
-    pass-requires
     asked-name-requires
-    drop-head-requires
-    mul-left
-    element-set-from-left
-    answer-requires
-    returns
-    answer-requires-2
-    returns-2
-    add-t46
-    add-t46-2
-    recall-requires
-    cast-give
-    give-requires
-    mul-lent
-    element-set-from-lent
-    granted-requires
-    mul-there
-    element-copy-out-there
-    cast-give-2
-    give-requires-2
-    mul-given
-    element-set-from-given
-    add-entry
+    ticket-requires
     entry-requires
-    spare-place-requires
-    mul-entry
-    element-set-from-entry
+    cast-here
+    mul-here
+    cast-here-2
+    add-here
+    cast-there
+    mul-there
+    cast-there-2
+    add-there
+    seat-requires
+    seat-requires-2
+    pass-requires
+    drop-head-requires
+    plain-requires
+    same-length
+    returns
+    plain-requires-2
+    same-length-2
+    returns-2
+    add-entry
+    add-entry-2
+    recall-requires
+    give-requires
+    granted-requires
+    give-requires-2
+    same-length-3
     returns-3
-    returns-4
-    returns-5)
+    add-entry-3
+    entry-requires-2
+    make-requires
+    same-length-4
+    returns-4)

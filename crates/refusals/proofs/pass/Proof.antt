@@ -5,7 +5,6 @@ use borrow.Author.Tests.{not-true, not-false}
 use borrow.Author.Needs.{needs}
 use Rattle.rights.specs.declared.Rights.{Rights}
 use Rattle.rights.specs.Rules.{within}
-use Rattle.tables.proofs.Fits.{program-fits}
 use Rattle.machine.specs.Refusal.{_when_else_}
 use Rattle.refusals.proofs.PassTests.{place-found, no-place-found, numbers-left, numbers-spent, no-ticket, is-recall, to-itself, too-many, no-pass-on, too-much, asker-full, recipient-full, asker-spent, recipient-spent, by-entry}
 use Rattle.refusals.proofs.pass.Statement.{statement}
@@ -111,9 +110,6 @@ returns-6 c =
     (ap (λ (y : Rights). within y (c16 .args .k .rights)) (sym (c .before .before .make .ensures)) ∙ sym (c .before .contains .ensures) ∙
     not-true _ (c .if6 .taken))
 
-free-place-requires : tie.Need-free-place-requires
-free-place-requires c κs = search needs
-
 returns-7 : tie.Need-returns-7
 returns-7 c =
     let c3 = c .before .before .before in
@@ -128,22 +124,15 @@ returns-7 c =
     let c16 = c15 .before in
     let c17 = c16 .before in
     let c18 = c17 .before in
-    λ t f. asker-full t (c18 .args .r) (c18 .args .k) (c18 .args .p) (c18 .args .q) (c18 .args .e) f
-    (sym (c17 .is-live .ensures) ∙ not-false _ (c16 .if1 .left)) (sym (c15 .is-recall .ensures) ∙ c14 .if2 .left)
-    (sym (c13 .is-to-itself .ensures) ∙ c12 .if3 .left) (omega (arith, c8 .if4 .left))
+    λ t f. asker-full t (c18 .args .r) (c18 .args .k) (c18 .args .p) (c18 .args .q) (c18 .args .e) f (sym (c17 .is-live .ensures) ∙ not-false _ (c16 .if1 .left))
+    (sym (c15 .is-recall .ensures) ∙ c14 .if2 .left) (sym (c13 .is-to-itself .ensures) ∙ c12 .if3 .left) (omega (arith, c8 .if4 .left))
     (sym (c6 .can-pass .ensures) ∙ not-false _ (c5 .if5 .left))
-    (ap (λ (y : Rights). within y (c18 .args .k .rights)) (sym (c4 .make .ensures)) ∙ sym (c3 .contains .ensures) ∙ not-false _
-    (c .before .before .if6 .left))
-    (no-place-found t (c18 .args .r .pad) (c18 .args .r .program) (c18 .args .p) (f .asker)
-    (program-fits (c18 .args .p) (_, c18 .good .1 .0) .long) _ (c .before .free-place .ensures) (c .if7 .taken))
-
-free-place-requires-2 : tie.Need-free-place-requires-2
-free-place-requires-2 c κs = search needs
+    (ap (λ (y : Rights). within y (c18 .args .k .rights)) (sym (c4 .make .ensures)) ∙ sym (c3 .contains .ensures) ∙ not-false _ (c .before .before .if6 .left))
+    (no-place-found t (c18 .args .r .pad) (c18 .args .r .program) (c18 .args .p) (f .asker) (c .if7 .taken))
 
 returns-8 : tie.Need-returns-8
 returns-8 c =
-    let c3 = c .before .before .before in
-    let c4 = c3 .before in
+    let c4 = c .before .before .before .before in
     let c5 = c4 .before in
     let c6 = c5 .before in
     let c7 = c6 .before in
@@ -156,23 +145,17 @@ returns-8 c =
     let c18 = c17 .before in
     let c19 = c18 .before in
     let c20 = c19 .before in
-    λ t f. recipient-full t (c20 .args .r) (c20 .args .k) (c20 .args .p) (c20 .args .q) (c20 .args .e) f
-    (sym (c19 .is-live .ensures) ∙ not-false _ (c18 .if1 .left)) (sym (c17 .is-recall .ensures) ∙ c16 .if2 .left)
-    (sym (c15 .is-to-itself .ensures) ∙ c14 .if3 .left) (omega (arith, c10 .if4 .left))
+    λ t f. recipient-full t (c20 .args .r) (c20 .args .k) (c20 .args .p) (c20 .args .q) (c20 .args .e) f (sym (c19 .is-live .ensures) ∙ not-false _ (c18 .if1 .left))
+    (sym (c17 .is-recall .ensures) ∙ c16 .if2 .left) (sym (c15 .is-to-itself .ensures) ∙ c14 .if3 .left) (omega (arith, c10 .if4 .left))
     (sym (c8 .can-pass .ensures) ∙ not-false _ (c7 .if5 .left))
-    (ap (λ (y : Rights). within y (c20 .args .k .rights)) (sym (c6 .make .ensures)) ∙ sym (c5 .contains .ensures) ∙ not-false _
-    (c4 .if6 .left))
-    (place-found t (c20 .args .r .pad) (c20 .args .r .program) (c20 .args .p) (f .asker)
-    (program-fits (c20 .args .p) (_, c20 .good .1 .0) .long) _ (c3 .free-place .ensures) (omega (arith, c .before .before .if7 .left)))
-    (no-place-found t (c20 .args .r .topad) (c20 .args .r .toprogram) (c20 .args .q) (f .recipient)
-    (program-fits (c20 .args .q) (_, c20 .good .1 .1 .0) .long) _ (c .before .free-place2 .ensures) (c .if8 .taken))
+    (ap (λ (y : Rights). within y (c20 .args .k .rights)) (sym (c6 .make .ensures)) ∙ sym (c5 .contains .ensures) ∙ not-false _ (c4 .if6 .left))
+    (place-found t (c20 .args .r .pad) (c20 .args .r .program) (c20 .args .p) (f .asker) (omega (arith, c .before .before .if7 .left)))
+    (no-place-found t (c20 .args .r .topad) (c20 .args .r .toprogram) (c20 .args .q) (f .recipient) (c .if8 .taken))
 
 returns-9 : tie.Need-returns-9
 returns-9 c =
-    let c3 = c .before .before .before in
-    let c4 = c3 .before in
-    let c5 = c4 .before in
-    let c6 = c5 .before in
+    let c4 = c .before .before .before .before in
+    let c6 = c4 .before .before in
     let c7 = c6 .before in
     let c8 = c7 .before in
     let c9 = c8 .before in
@@ -185,25 +168,19 @@ returns-9 c =
     let c20 = c19 .before in
     let c21 = c20 .before in
     let c22 = c21 .before in
-    λ t f. asker-spent t (c22 .args .r) (c22 .args .k) (c22 .args .p) (c22 .args .q) (c22 .args .e) f
-    (sym (c21 .is-live .ensures) ∙ not-false _ (c20 .if1 .left)) (sym (c19 .is-recall .ensures) ∙ c18 .if2 .left)
-    (sym (c17 .is-to-itself .ensures) ∙ c16 .if3 .left) (omega (arith, c12 .if4 .left))
+    λ t f. asker-spent t (c22 .args .r) (c22 .args .k) (c22 .args .p) (c22 .args .q) (c22 .args .e) f (sym (c21 .is-live .ensures) ∙ not-false _ (c20 .if1 .left))
+    (sym (c19 .is-recall .ensures) ∙ c18 .if2 .left) (sym (c17 .is-to-itself .ensures) ∙ c16 .if3 .left) (omega (arith, c12 .if4 .left))
     (sym (c10 .can-pass .ensures) ∙ not-false _ (c9 .if5 .left))
-    (ap (λ (y : Rights). within y (c22 .args .k .rights)) (sym (c8 .make .ensures)) ∙ sym (c7 .contains .ensures) ∙ not-false _
-    (c6 .if6 .left))
-    (place-found t (c22 .args .r .pad) (c22 .args .r .program) (c22 .args .p) (f .asker)
-    (program-fits (c22 .args .p) (_, c22 .good .1 .0) .long) _ (c5 .free-place .ensures) (omega (arith, c4 .if7 .left)))
-    (place-found t (c22 .args .r .topad) (c22 .args .r .toprogram) (c22 .args .q) (f .recipient)
-    (program-fits (c22 .args .q) (_, c22 .good .1 .1 .0) .long) _ (c3 .free-place2 .ensures) (omega (arith, c .before .before .if8 .left)))
+    (ap (λ (y : Rights). within y (c22 .args .k .rights)) (sym (c8 .make .ensures)) ∙ sym (c7 .contains .ensures) ∙ not-false _ (c6 .if6 .left))
+    (place-found t (c22 .args .r .pad) (c22 .args .r .program) (c22 .args .p) (f .asker) (omega (arith, c4 .if7 .left)))
+    (place-found t (c22 .args .r .topad) (c22 .args .r .toprogram) (c22 .args .q) (f .recipient) (omega (arith, c .before .before .if8 .left)))
     (numbers-spent t (c22 .args .r .pad) (c22 .args .r .program) (c22 .args .p) (f .asker) (c .if9 .taken))
 
 returns-10 : tie.Need-returns-10
 returns-10 c =
     let c4 = c .before .before .before .before in
-    let c5 = c4 .before in
-    let c6 = c5 .before in
-    let c7 = c6 .before in
-    let c8 = c7 .before in
+    let c6 = c4 .before .before in
+    let c8 = c6 .before .before in
     let c9 = c8 .before in
     let c10 = c9 .before in
     let c11 = c10 .before in
@@ -216,16 +193,12 @@ returns-10 c =
     let c22 = c21 .before in
     let c23 = c22 .before in
     let c24 = c23 .before in
-    λ t f. recipient-spent t (c24 .args .r) (c24 .args .k) (c24 .args .p) (c24 .args .q) (c24 .args .e) f
-    (sym (c23 .is-live .ensures) ∙ not-false _ (c22 .if1 .left)) (sym (c21 .is-recall .ensures) ∙ c20 .if2 .left)
-    (sym (c19 .is-to-itself .ensures) ∙ c18 .if3 .left) (omega (arith, c14 .if4 .left))
+    λ t f. recipient-spent t (c24 .args .r) (c24 .args .k) (c24 .args .p) (c24 .args .q) (c24 .args .e) f (sym (c23 .is-live .ensures) ∙ not-false _ (c22 .if1 .left))
+    (sym (c21 .is-recall .ensures) ∙ c20 .if2 .left) (sym (c19 .is-to-itself .ensures) ∙ c18 .if3 .left) (omega (arith, c14 .if4 .left))
     (sym (c12 .can-pass .ensures) ∙ not-false _ (c11 .if5 .left))
-    (ap (λ (y : Rights). within y (c24 .args .k .rights)) (sym (c10 .make .ensures)) ∙ sym (c9 .contains .ensures) ∙ not-false _
-    (c8 .if6 .left))
-    (place-found t (c24 .args .r .pad) (c24 .args .r .program) (c24 .args .p) (f .asker)
-    (program-fits (c24 .args .p) (_, c24 .good .1 .0) .long) _ (c7 .free-place .ensures) (omega (arith, c6 .if7 .left)))
-    (place-found t (c24 .args .r .topad) (c24 .args .r .toprogram) (c24 .args .q) (f .recipient)
-    (program-fits (c24 .args .q) (_, c24 .good .1 .1 .0) .long) _ (c5 .free-place2 .ensures) (omega (arith, c4 .if8 .left)))
+    (ap (λ (y : Rights). within y (c24 .args .k .rights)) (sym (c10 .make .ensures)) ∙ sym (c9 .contains .ensures) ∙ not-false _ (c8 .if6 .left))
+    (place-found t (c24 .args .r .pad) (c24 .args .r .program) (c24 .args .p) (f .asker) (omega (arith, c6 .if7 .left)))
+    (place-found t (c24 .args .r .topad) (c24 .args .r .toprogram) (c24 .args .q) (f .recipient) (omega (arith, c4 .if8 .left)))
     (numbers-left t (c24 .args .r .pad) (c24 .args .r .program) (c24 .args .p) (f .asker) (omega (arith, c .before .before .if9 .left)))
     (numbers-spent t (c24 .args .r .topad) (c24 .args .r .toprogram) (c24 .args .q) (f .recipient) (c .if10 .taken))
 
@@ -237,10 +210,8 @@ unfolding _when_else_
 returns-11 c =
     let c4 = c .before .before .before .before in
     let c6 = c4 .before .before in
-    let c7 = c6 .before in
-    let c8 = c7 .before in
-    let c9 = c8 .before in
-    let c10 = c9 .before in
+    let c8 = c6 .before .before in
+    let c10 = c8 .before .before in
     let c11 = c10 .before in
     let c12 = c11 .before in
     let c13 = c12 .before in
@@ -253,29 +224,23 @@ returns-11 c =
     let c24 = c23 .before in
     let c25 = c24 .before in
     let c26 = c25 .before in
-    λ t f. sym (ap (λ (b : Bool). 12 when b else 0) (sym (c .before .lacks-entry .ensures) ∙ c .if11 .taken)) ∙ by-entry t (c26 .args .r)
-    (c26 .args .k) (c26 .args .p) (c26 .args .q) (c26 .args .e) f (sym (c25 .is-live .ensures) ∙ not-false _ (c24 .if1 .left))
+    λ t f. sym (ap (λ (b : Bool). 12 when b else 0) (sym (c .before .lacks-entry .ensures) ∙ c .if11 .taken))
+    ∙ by-entry t (c26 .args .r) (c26 .args .k) (c26 .args .p) (c26 .args .q) (c26 .args .e) f (sym (c25 .is-live .ensures) ∙ not-false _ (c24 .if1 .left))
     (sym (c23 .is-recall .ensures) ∙ c22 .if2 .left) (sym (c21 .is-to-itself .ensures) ∙ c20 .if3 .left) (omega (arith, c16 .if4 .left))
     (sym (c14 .can-pass .ensures) ∙ not-false _ (c13 .if5 .left))
-    (ap (λ (y : Rights). within y (c26 .args .k .rights)) (sym (c12 .make .ensures)) ∙ sym (c11 .contains .ensures) ∙ not-false _
-    (c10 .if6 .left))
-    (place-found t (c26 .args .r .pad) (c26 .args .r .program) (c26 .args .p) (f .asker)
-    (program-fits (c26 .args .p) (_, c26 .good .1 .0) .long) _ (c9 .free-place .ensures) (omega (arith, c8 .if7 .left)))
-    (place-found t (c26 .args .r .topad) (c26 .args .r .toprogram) (c26 .args .q) (f .recipient)
-    (program-fits (c26 .args .q) (_, c26 .good .1 .1 .0) .long) _ (c7 .free-place2 .ensures) (omega (arith, c6 .if8 .left)))
+    (ap (λ (y : Rights). within y (c26 .args .k .rights)) (sym (c12 .make .ensures)) ∙ sym (c11 .contains .ensures) ∙ not-false _ (c10 .if6 .left))
+    (place-found t (c26 .args .r .pad) (c26 .args .r .program) (c26 .args .p) (f .asker) (omega (arith, c8 .if7 .left)))
+    (place-found t (c26 .args .r .topad) (c26 .args .r .toprogram) (c26 .args .q) (f .recipient) (omega (arith, c6 .if8 .left)))
     (numbers-left t (c26 .args .r .pad) (c26 .args .r .program) (c26 .args .p) (f .asker) (omega (arith, c4 .if9 .left)))
-    (numbers-left t (c26 .args .r .topad) (c26 .args .r .toprogram) (c26 .args .q) (f .recipient)
-    (omega (arith, c .before .before .if10 .left)))
+    (numbers-left t (c26 .args .r .topad) (c26 .args .r .toprogram) (c26 .args .q) (f .recipient) (omega (arith, c .before .before .if10 .left)))
 
 returns-12 : tie.Need-returns-12
 unfolding _when_else_
 returns-12 c =
     let c4 = c .before .before .before .before in
     let c6 = c4 .before .before in
-    let c7 = c6 .before in
-    let c8 = c7 .before in
-    let c9 = c8 .before in
-    let c10 = c9 .before in
+    let c8 = c6 .before .before in
+    let c10 = c8 .before .before in
     let c11 = c10 .before in
     let c12 = c11 .before in
     let c13 = c12 .before in
@@ -288,19 +253,15 @@ returns-12 c =
     let c24 = c23 .before in
     let c25 = c24 .before in
     let c26 = c25 .before in
-    λ t f. sym (ap (λ (b : Bool). 12 when b else 0) (sym (c .before .lacks-entry .ensures) ∙ c .if11 .left)) ∙ by-entry t (c26 .args .r)
-    (c26 .args .k) (c26 .args .p) (c26 .args .q) (c26 .args .e) f (sym (c25 .is-live .ensures) ∙ not-false _ (c24 .if1 .left))
+    λ t f. sym (ap (λ (b : Bool). 12 when b else 0) (sym (c .before .lacks-entry .ensures) ∙ c .if11 .left))
+    ∙ by-entry t (c26 .args .r) (c26 .args .k) (c26 .args .p) (c26 .args .q) (c26 .args .e) f (sym (c25 .is-live .ensures) ∙ not-false _ (c24 .if1 .left))
     (sym (c23 .is-recall .ensures) ∙ c22 .if2 .left) (sym (c21 .is-to-itself .ensures) ∙ c20 .if3 .left) (omega (arith, c16 .if4 .left))
     (sym (c14 .can-pass .ensures) ∙ not-false _ (c13 .if5 .left))
-    (ap (λ (y : Rights). within y (c26 .args .k .rights)) (sym (c12 .make .ensures)) ∙ sym (c11 .contains .ensures) ∙ not-false _
-    (c10 .if6 .left))
-    (place-found t (c26 .args .r .pad) (c26 .args .r .program) (c26 .args .p) (f .asker)
-    (program-fits (c26 .args .p) (_, c26 .good .1 .0) .long) _ (c9 .free-place .ensures) (omega (arith, c8 .if7 .left)))
-    (place-found t (c26 .args .r .topad) (c26 .args .r .toprogram) (c26 .args .q) (f .recipient)
-    (program-fits (c26 .args .q) (_, c26 .good .1 .1 .0) .long) _ (c7 .free-place2 .ensures) (omega (arith, c6 .if8 .left)))
+    (ap (λ (y : Rights). within y (c26 .args .k .rights)) (sym (c12 .make .ensures)) ∙ sym (c11 .contains .ensures) ∙ not-false _ (c10 .if6 .left))
+    (place-found t (c26 .args .r .pad) (c26 .args .r .program) (c26 .args .p) (f .asker) (omega (arith, c8 .if7 .left)))
+    (place-found t (c26 .args .r .topad) (c26 .args .r .toprogram) (c26 .args .q) (f .recipient) (omega (arith, c6 .if8 .left)))
     (numbers-left t (c26 .args .r .pad) (c26 .args .r .program) (c26 .args .p) (f .asker) (omega (arith, c4 .if9 .left)))
-    (numbers-left t (c26 .args .r .topad) (c26 .args .r .toprogram) (c26 .args .q) (f .recipient)
-    (omega (arith, c .before .before .if10 .left)))
+    (numbers-left t (c26 .args .r .topad) (c26 .args .r .toprogram) (c26 .args .q) (f .recipient) (omega (arith, c .before .before .if10 .left)))
 
 pub pass-spec : {M : Type 1} → statement M
 pass-spec =
@@ -322,9 +283,7 @@ pass-spec =
     make-requires
     contains-requires
     returns-6
-    free-place-requires
     returns-7
-    free-place-requires-2
     returns-8
     returns-9
     returns-10

@@ -7,7 +7,9 @@ empty-tables-requires : tie.Need-empty-tables-requires
 empty-tables-requires c κs = search needs
 
 returns : tie.Need-returns
-returns c = not-emptied (c .before .before .before .args .store .now) _ (c .before .empty-tables .ensures) (c .if1 .taken)
+returns c =
+    let c3 = c .before .before .before in
+    not-emptied (c3 .args .store .now) _ (c .before .empty-tables .ensures) (c .if1 .taken)
 
 clear-requires : tie.Need-clear-requires
 clear-requires c κs = search needs
