@@ -38,7 +38,7 @@ extern "C" {
 #define DOCK_ANSWER 3     /* numbers of an answer */
 
 /* Bytes of stack that a call may take, its own frame included: measured by tests/stack.c, not proved. */
-#define DOCK_STACK 131072
+#define DOCK_STACK 32768
 
 /* How many there are. */
 #define DOCK_PADS 4      /* pads 0 to 3 */

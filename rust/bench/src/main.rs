@@ -1,14 +1,12 @@
 //! Times the proved library against the model on one machine, with the same requests from the same tables.
 //! `sh bench/run` builds and runs it.
 //!
-//! usage: bench [REQUESTS] [SEED]     REQUESTS for each trace, usually 4000
+//! usage: bench [REQUESTS] [SEED] [FILL]     REQUESTS for each trace, usually 4000; FILL: only empty, light, mixed or full
 //!
 //! Each figure is the best of several runs, in nanoseconds for one request. Every run begins with the same
 //! tables and store; they are put back before the clock starts, and all buffers are used again, so that no
 //! run pays for fresh memory. A trace is made once, from the model, and its mix keeps the tables about as
 //! full as they were: mostly reads and writes, some passes, recalls, takes and give backs, some refused.
-
-mod beside;
 
 use dock::raw;
 use image::random::Rng;
@@ -176,12 +174,19 @@ struct Buffers {
     state: State,
 }
 
-fn row(label: &str, library: f64, model: f64) {
-    println!("  {label:<44}{library:>10.0}{model:>10.0}{:>8.1}", library / model);
+/// Nanoseconds for one request, or one test of the order, on both sides.
+struct Figures {
+    single: f64,
+    batch: f64,
+    order: f64,
+    model_tested: f64,
+    model_untested: f64,
+    model_order: f64,
+    /// Are the library's answers the model's?
+    agree: bool,
 }
 
-/// Times one trace; false where the library's answers are not the model's.
-fn time(trace: &Trace) -> bool {
+fn time(trace: &Trace) -> Figures {
     let n = trace.requests.len();
     let image = image::encode(&trace.start);
     let mut buffers = Buffers {
@@ -229,11 +234,6 @@ fn time(trace: &Trace) -> bool {
     let untested = best(n, &mut buffers, reset, |b| model_run(b, State::step_in_order));
     agree &= buffers.answers == wanted;
 
-    // The inner step alone: each request on the tables that the trace starts with.
-    let inner = best(n, &mut buffers, reset, |b| {
-        beside::inner(&b.tables, &mut b.store, &b.numbers);
-    });
-
     reset(&mut buffers);
     let turns = 500;
     let repeat = |b: &mut Buffers, test: fn(&Buffers) -> bool| {
@@ -244,32 +244,67 @@ fn time(trace: &Trace) -> bool {
     let order = best(turns, &mut buffers, |_| (), |b| repeat(b, |b| raw::in_order(&b.tables) == 0));
     let model_order = best(turns, &mut buffers, |_| (), |b| repeat(b, |b| b.state.in_order()));
 
+    let (model_tested, model_untested) = (tested, untested);
+    Figures { single, batch, order, model_tested, model_untested, model_order, agree }
+}
+
+fn row(label: &str, library: f64, model: f64) {
+    println!("  {label:<44}{library:>10.0}{model:>10.0}{:>8.1}", library / model);
+}
+
+/// The figures of one trace, with what it is; false where the answers differ.
+fn show(trace: &Trace) -> bool {
+    let Trace { fill, left, requests, answers, .. } = trace;
     let (tickets, entries) = (trace.start.tickets().count(), trace.start.entries().count());
-    let refused = trace.answers.iter().filter(|answer| answer.result != 0).count();
-    let (fill, left) = (trace.fill, trace.left);
+    let refused = answers.iter().filter(|answer| answer.result != 0).count();
     println!(
-        "{fill}: {tickets} tickets ({left} at the end), {entries} entries, {n} requests, {refused} refused"
+        "{fill}: {tickets} tickets ({left} at the end), {entries} entries, {} requests, {refused} refused",
+        requests.len()
     );
-    row("single call; the model tests the order too", single, tested);
-    row(&format!("batch of {BATCH}; the model tests no order"), batch, untested);
-    row("inner step; the model tests no order", inner, untested);
-    row("order test", order, model_order);
-    if !agree {
+    let f = time(trace);
+    row("single call; the model tests the order too", f.single, f.model_tested);
+    row(&format!("inner step, by batches of {BATCH}; no order test"), f.batch, f.model_untested);
+    row("order test", f.order, f.model_order);
+    if !f.agree {
         println!("  the answers differ");
     }
-    agree
+    f.agree
+}
+
+/// How the cost grows: a row for each of some levels; false where answers differ.
+fn growth(length: usize, seed: u64) -> bool {
+    println!("tickets entries   single    inner    order   model, single and order");
+    let levels = [0, 16, 32, 64, 96, 128, 160, 192, 224, 256];
+    let agree = levels.map(|level| {
+        let trace = trace("", level, length, seed);
+        let (tickets, entries) = (trace.start.tickets().count(), trace.start.entries().count());
+        let f = time(&trace);
+        println!(
+            "{tickets:>7} {entries:>7} {:>8.0} {:>8.0} {:>8.0} {:>14.0} {:>9.0}",
+            f.single, f.batch, f.order, f.model_tested, f.model_order
+        );
+        f.agree
+    });
+    !agree.contains(&false)
 }
 
 fn main() -> ExitCode {
     let argument = |at, usual| env::args().nth(at).map_or(Some(usual), |text| text.parse::<u64>().ok());
     let (Some(length), Some(seed)) = (argument(1, 4000), argument(2, 1)) else {
-        eprintln!("usage: bench [REQUESTS] [SEED]");
+        eprintln!("usage: bench [REQUESTS] [SEED] [FILL]");
         return ExitCode::from(2);
     };
+    let only = env::args().nth(3);
     println!("  {:<44}{:>10}{:>10}{:>8}", "nanoseconds for one", "library", "model", "ratio");
     let fills = [("empty", 0), ("light", 45), ("mixed", 150), ("full", 256)];
-    let agree = fills.map(|(fill, level)| time(&trace(fill, level, length as usize, seed)));
-    if agree.contains(&false) {
+    let mut agree = fills
+        .iter()
+        .filter(|(fill, _)| only.as_ref().map_or(true, |name| name == fill))
+        .all(|&(fill, level)| show(&trace(fill, level, length as usize, seed)));
+    if only.is_none() {
+        agree &= growth(length as usize, seed);
+    }
+    if !agree {
         return ExitCode::FAILURE;
     }
     ExitCode::SUCCESS
