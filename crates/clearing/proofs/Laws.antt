@@ -21,31 +21,31 @@ use Rattle.index.specs.Places.{placed, nameAt}
 use Rattle.lookup.proofs.Laws.{flattened, decoded-sized}
 use Rattle.in_place.specs.Shows.{Shows, Holds}
 use Rattle.in_place.proofs.ToTables.{holds, dropped-flat}
-use Rattle.clearing.specs.Cleared.{within, clearAt, Cleared}
+use Rattle.clearing.specs.Cleared.{among, clearAt, Cleared}
 
 -- ---- the places from `start` on
 module _ (start : ℕ) where
-  -- what a place within tells
-  pub record Within (size p : ℕ) : Type 0 where
+  -- what a place among them tells
+  pub record Among (size p : ℕ) : Type 0 where
     pub low : leb start p ≡ true
     pub high : ltb p (start + size) ≡ true
 
-  pub is-within : (size p : ℕ) → within start size p ≡ true → Within size p
-  is-within size p e = record { low = and-l (leb start p) (ltb p (start + size)) e; high = and-r (leb start p) (ltb p (start + size)) e }
+  pub is-among : (size p : ℕ) → among start size p ≡ true → Among size p
+  is-among size p e = record { low = and-l (leb start p) (ltb p (start + size)) e; high = and-r (leb start p) (ltb p (start + size)) e }
 
-  outside : (size p : ℕ) → start + size ≡ p → within start size p ≡ false
-  outside size p h = cannot-pass (within start size p) (λ e. omega (arith, h, ltb-true p (start + size) (is-within size p e .high)))
+  outside : (size p : ℕ) → start + size ≡ p → among start size p ≡ false
+  outside size p h = cannot-pass (among start size p) (λ e. omega (arith, h, ltb-true p (start + size) (is-among size p e .high)))
 
-  none-within : (p : ℕ) → within start 0 p ≡ false
-  none-within p =
-      cannot-pass (within start 0 p)
-      (λ e. omega (arith, leb-true start p (is-within 0 p e .low), ltb-true p (start + 0) (is-within 0 p e .high)))
+  none-among : (p : ℕ) → among start 0 p ≡ false
+  none-among p =
+      cannot-pass (among start 0 p)
+      (λ e. omega (arith, leb-true start p (is-among 0 p e .low), ltb-true p (start + 0) (is-among 0 p e .high)))
 
-  within-last : (i : ℕ) → within start (i + 1) (start + i) ≡ true
-  within-last i = and-intro (le-leb start (start + i) (omega arith)) (lt-ltb (start + i) (start + (i + 1)) (omega arith))
+  among-last : (i : ℕ) → among start (i + 1) (start + i) ≡ true
+  among-last i = and-intro (le-leb start (start + i) (omega arith)) (lt-ltb (start + i) (start + (i + 1)) (omega arith))
 
-  within-more : (i p : ℕ) → (p ≡ start + i → ⊥) → within start (i + 1) p ≡ within start i p
-  within-more i p ne =
+  among-more : (i p : ℕ) → (p ≡ start + i → ⊥) → among start (i + 1) p ≡ among start i p
+  among-more i p ne =
       ap (λ (b : Bool). leb start p && b)
       (both-ways (ltb p (start + (i + 1))) (ltb p (start + i))
       (λ e. lt-ltb p (start + i) (omega (arith, ltb-true p (start + (i + 1)) e, ne)))
@@ -53,22 +53,22 @@ module _ (start : ℕ) where
 
 module _ (start : ℕ) (gone : ℕ → Ticket → Bool) where
   -- ---- one ticket
-  clear-outside : (size p : ℕ) (k : Ticket) → within start size p ≡ false → clearAt start size gone p k ≡ k
+  clear-outside : (size p : ℕ) (k : Ticket) → among start size p ≡ false → clearAt start size gone p k ≡ k
   unfolding clearAt
   clear-outside size p k e = ap (λ (b : Bool). cond (b && gone p k) free k) e
 
-  clear-same : (size size′ p : ℕ) (k : Ticket) → within start size p ≡ within start size′ p → clearAt start size gone p k ≡ clearAt start size′ gone p k
+  clear-same : (size size′ p : ℕ) (k : Ticket) → among start size p ≡ among start size′ p → clearAt start size gone p k ≡ clearAt start size′ gone p k
   unfolding clearAt
   clear-same size size′ p k e = ap (λ (b : Bool). cond (b && gone p k) free k) e
 
-  clear-gone : (size p : ℕ) (k : Ticket) → within start size p ≡ true → gone p k ≡ true → clearAt start size gone p k ≡ free
+  clear-gone : (size p : ℕ) (k : Ticket) → among start size p ≡ true → gone p k ≡ true → clearAt start size gone p k ≡ free
   unfolding clearAt
   clear-gone size p k e g = ap (λ (b : Bool). cond b free k) (and-intro e g)
 
   clear-kept : (size p : ℕ) (k : Ticket) → gone p k ≡ false → clearAt start size gone p k ≡ k
   unfolding clearAt
   clear-kept size p k g =
-      ap (λ (b : Bool). cond b free k) (ap (λ (b : Bool). within start size p && b) g ∙ and-false (within start size p))
+      ap (λ (b : Bool). cond b free k) (ap (λ (b : Bool). among start size p && b) g ∙ and-false (among start size p))
 
   module _ (before : List ℕ) where
     -- what stood at a place
@@ -76,7 +76,7 @@ module _ (start : ℕ) (gone : ℕ → Ticket → Bool) where
     stood p = getD (ticketsIn before) p free
 
     pub cleared-none : isImage before ≡ true → Cleared start 0 gone before before
-    cleared-none is = record { is = is; tickets = λ p h. sym (clear-outside 0 p (stood p) (none-within start p)); lasts = refl; entries = refl }
+    cleared-none is = record { is = is; tickets = λ p h. sym (clear-outside 0 p (stood p) (none-among start p)); lasts = refl; entries = refl }
 
     -- ---- one place more
     module _ (i : ℕ) (after : List ℕ) (c : Cleared start i gone before after) (low : start + i < 256) where
@@ -99,10 +99,10 @@ module _ (start : ℕ) (gone : ℕ → Ticket → Bool) where
           at p h (pass q) =
               rw (eqb-true p (start + i) q)
               (getD-set-same (ticketsIn after) (start + i) x free (omega (arith, low, tickets-long after)) ∙ e
-              ∙ sym (clear-gone (i + 1) (start + i) (stood (start + i)) (within-last start i) g))
+              ∙ sym (clear-gone (i + 1) (start + i) (stood (start + i)) (among-last start i) g))
           at p h (fail q) =
               getD-set-other (ticketsIn after) (start + i) p x free (eqb-false p (start + i) q) ∙ c .tickets p h
-              ∙ sym (clear-same (i + 1) i p (stood p) (within-more start i p (eqb-false p (start + i) q)))
+              ∙ sym (clear-same (i + 1) i p (stood p) (among-more start i p (eqb-false p (start + i) q)))
 
       pub cleared-kept : gone (start + i) (stood (start + i)) ≡ false → Cleared start (i + 1) gone before after
       cleared-kept g = record { is = c .is; tickets = λ p h. at p h (case (eqb p (start + i))); lasts = c .lasts; entries = c .entries }
@@ -110,12 +110,12 @@ module _ (start : ℕ) (gone : ℕ → Ticket → Bool) where
           at : (p : ℕ) → p < 256 → Case (eqb p (start + i)) → getD (ticketsIn after) p free ≡ clearAt start (i + 1) gone p (stood p)
           at p h (pass q) =
               rw (eqb-true p (start + i) q) (stands-yet ∙ sym (clear-kept (i + 1) (start + i) (stood (start + i)) g))
-          at p h (fail q) = c .tickets p h ∙ sym (clear-same (i + 1) i p (stood p) (within-more start i p (eqb-false p (start + i) q)))
+          at p h (fail q) = c .tickets p h ∙ sym (clear-same (i + 1) i p (stood p) (among-more start i p (eqb-false p (start + i) q)))
 
     -- ---- the tables that it holds, where the test of places is one of names
     module _ (size : ℕ) (after : List ℕ) (c : Cleared start size gone before after) (names : Name → Bool)
         (agree : (p : ℕ) → p < 256
-        → (within start size p && gone p (placed (decode before) p)) ≡ (isLive (placed (decode before) p .kind) && names (nameAt p (placed (decode before) p)))) where
+        → (among start size p && gone p (placed (decode before) p)) ≡ (isLive (placed (decode before) p .kind) && names (nameAt p (placed (decode before) p)))) where
       ticket-dropped : (p : ℕ) → p < 256 → getD (ticketsIn after) p free ≡ dropTicket names (p / 64) (p / 8 % 8) (stood p)
       unfolding clearAt dropTicket
       ticket-dropped p h =

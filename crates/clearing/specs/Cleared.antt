@@ -16,12 +16,12 @@ abbrev pub isMarked : List ℕ → ℕ → Ticket → Bool
 isMarked marks i k = isLive (k .kind) && eqb (getD marks i 0) 1
 
 -- one of the places from `start` on, `size` of them
-abbrev pub within : ℕ → ℕ → ℕ → Bool
-within start size p = leb start p && ltb p (start + size)
+abbrev pub among : ℕ → ℕ → ℕ → Bool
+among start size p = leb start p && ltb p (start + size)
 
 -- the ticket k of the place p, or the free record where it goes
 unfoldable pub clearAt : ℕ → ℕ → (ℕ → Ticket → Bool) → ℕ → Ticket → Ticket
-clearAt start size gone p k = cond (within start size p && gone p k) free k
+clearAt start size gone p k = cond (among start size p && gone p k) free k
 
 -- `size` places from `start` on have been cleared of what goes; all else is as it was
 pub record Cleared (start size : ℕ) (gone : ℕ → Ticket → Bool) (before after : List ℕ) : Type 0 where

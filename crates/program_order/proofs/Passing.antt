@@ -51,9 +51,9 @@ module _ (image : List ℕ) where
     pub kinds : (p : ℕ) → p < i → leb (numberAt (ticketStart p) image) 4 ≡ true
     pub so : SoFar (ticketsIn image) (lastsIn image) i numbers
     pub long : (length taken ≡ 256) × ((length children ≡ 256) × (length recalls ≡ 256))
-    pub grants : Listing free (λ k. isTaken (k .kind)) (ticketsIn image) i taken a
-    pub under : Listing free (λ k. isChild (k .kind)) (ticketsIn image) i children b
-    pub back : Listing free (λ k. isRecall (k .kind)) (ticketsIn image) i recalls c
+    pub takenListed : Listing free (λ k. isTaken (k .kind)) (ticketsIn image) i taken a
+    pub childrenListed : Listing free (λ k. isChild (k .kind)) (ticketsIn image) i children b
+    pub recallsListed : Listing free (λ k. isRecall (k .kind)) (ticketsIn image) i recalls c
 
   pub passed-none : (numbers taken children recalls : List ℕ) → numbers ≡ replicate {A = ℕ} 256 0
       → (length taken ≡ 256) × ((length children ≡ 256) × (length recalls ≡ 256)) → Passed 0 numbers taken children recalls 0 0 0
@@ -61,9 +61,9 @@ module _ (image : List ℕ) where
     kinds = λ p h. absurd (omega (arith, h));
     so = none-yet ks ls numbers e;
     long = long;
-    grants = listed-none free wasTaken ks taken;
-    under = listed-none free isUnder ks children;
-    back = listed-none free asksBack ks recalls;
+    takenListed = listed-none free wasTaken ks taken;
+    childrenListed = listed-none free isUnder ks children;
+    recallsListed = listed-none free asksBack ks recalls;
   }
 
   module _ (i : ℕ) (numbers taken children recalls : List ℕ) (a b c : ℕ) (w : Passed i numbers taken children recalls a b c) (low : i < 256)
@@ -93,9 +93,9 @@ module _ (image : List ℕ) where
           kinds = kinds-more;
           so = dead-turn ks ls i numbers (w .so) low free-here;
           long = w .long;
-          grants = listed-past free wasTaken ks i taken a (w .grants) (omega (arith, w .long .0, low)) (getD ks i free) refl (past isTaken live-taken);
-          under = listed-past free isUnder ks i children b (w .under) (omega (arith, w .long .1 .0, low)) (getD ks i free) refl (past isChild live-child);
-          back = listed-past free asksBack ks i recalls c (w .back) (omega (arith, w .long .1 .1, low)) (getD ks i free) refl (past isRecall live-recall);
+          takenListed = listed-past free wasTaken ks i taken a (w .takenListed) (omega (arith, w .long .0, low)) (getD ks i free) refl (past isTaken live-taken);
+          childrenListed = listed-past free isUnder ks i children b (w .childrenListed) (omega (arith, w .long .1 .0, low)) (getD ks i free) refl (past isChild live-child);
+          recallsListed = listed-past free asksBack ks i recalls c (w .recallsListed) (omega (arith, w .long .1 .1, low)) (getD ks i free) refl (past isRecall live-recall);
         }
 
       -- ---- a ticket, as the code reads it
@@ -129,9 +129,9 @@ module _ (image : List ℕ) where
               kinds = kinds-more;
               so = live-turn ks ls i numbers (w .so) low live-here new-here place-ok (k .number) (ap (λ (m : Ticket). m .number) here);
               long = (length-set taken a i ∙ w .long .0, (length-set children b i ∙ w .long .1 .0, length-set recalls c i ∙ w .long .1 .1));
-              grants = listed-turn free wasTaken ks i taken a (w .grants) (omega (arith, w .long .0, low)) k here x ex p ep;
-              under = listed-turn free isUnder ks i children b (w .under) (omega (arith, w .long .1 .0, low)) k here y ey q eq;
-              back = listed-turn free asksBack ks i recalls c (w .back) (omega (arith, w .long .1 .1, low)) k here z ez r er;
+              takenListed = listed-turn free wasTaken ks i taken a (w .takenListed) (omega (arith, w .long .0, low)) k here x ex p ep;
+              childrenListed = listed-turn free isUnder ks i children b (w .childrenListed) (omega (arith, w .long .1 .0, low)) k here y ey q eq;
+              recallsListed = listed-turn free asksBack ks i recalls c (w .recallsListed) (omega (arith, w .long .1 .1, low)) k here z ez r er;
             }
 
   -- ---- the end
@@ -145,7 +145,7 @@ module _ (image : List ℕ) where
     pub all-indexed : Indexed (ticketsIn image) numbers taken children recalls a b c
     all-indexed = record {
       written = all-written ks ls i numbers (tickets-long image) (omega (arith, end)) (w .so);
-      grants = listed-to free wasTaken ks end (w .grants);
-      under = listed-to free isUnder ks end (w .under);
-      back = listed-to free asksBack ks end (w .back);
+      takenListed = listed-to free wasTaken ks end (w .takenListed);
+      childrenListed = listed-to free isUnder ks end (w .childrenListed);
+      recallsListed = listed-to free asksBack ks end (w .recallsListed);
     }

@@ -33,6 +33,6 @@ ticketOk lasts numbers at k = between 1 (getD lasts (at / 8) 0) (k .number) && i
 -- the number of each live ticket, 0 where there is none, and the places of taken grants, children and recalls
 pub record Indexed (tickets : List Ticket) (numbers taken children recalls : List ℕ) (a b c : ℕ) : Type 0 where
   pub written : numbers ≡ map numberOf tickets
-  pub grants : Listing free (λ k. isTaken (k .kind)) tickets 256 taken a
-  pub under : Listing free (λ k. isChild (k .kind)) tickets 256 children b
-  pub back : Listing free (λ k. isRecall (k .kind)) tickets 256 recalls c
+  pub takenListed : Listing free (λ k. isTaken (k .kind)) tickets 256 taken a
+  pub childrenListed : Listing free (λ k. isChild (k .kind)) tickets 256 children b
+  pub recallsListed : Listing free (λ k. isRecall (k .kind)) tickets 256 recalls c

@@ -11,8 +11,8 @@ use Rattle.tables.specs.Kinds.{isLive}
 use Rattle.tables.specs.Names.{eqName}
 use Rattle.tables.specs.Lookup.{hasNumber}
 use Rattle.index.specs.Places.{nameAt, startOf}
-use Rattle.clearing.specs.Cleared.{within}
-use Rattle.clearing.proofs.Laws.{is-within}
+use Rattle.clearing.specs.Cleared.{among}
+use Rattle.clearing.proofs.Laws.{is-among}
 
 live-first : (w l e : Bool) → (w && (l && e)) ≡ (l && (w && e))
 live-first true l e = refl
@@ -21,11 +21,11 @@ live-first false false e = refl
 
 module _ (n : Name) (pad : n .pad < 4) (program : n .program < 8) where
   -- the program's places, and the pad and program of a place
-  of-program : (p : ℕ) → within (startOf n) 8 p ≡ (eqb (p / 64) (n .pad) && eqb (p / 8 % 8) (n .program))
+  of-program : (p : ℕ) → among (startOf n) 8 p ≡ (eqb (p / 64) (n .pad) && eqb (p / 8 % 8) (n .program))
   of-program p =
-      both-ways (within (startOf n) 8 p) (eqb (p / 64) (n .pad) && eqb (p / 8 % 8) (n .program))
+      both-ways (among (startOf n) 8 p) (eqb (p / 64) (n .pad) && eqb (p / 8 % 8) (n .program))
       (λ e.
-      let w = is-within (startOf n) 8 p e in
+      let w = is-among (startOf n) 8 p e in
       let low = leb-true (startOf n) p (w .low) in
       let high = ltb-true p (startOf n + 8) (w .high) in
       let m : p / 8 ≡ 8 * n .pad + n .program = omega (arith, low, high) in
@@ -36,7 +36,7 @@ module _ (n : Name) (pad : n .pad < 4) (program : n .program < 8) where
       let m : p / 8 ≡ 8 * n .pad + n .program = omega (arith, a, b) in
       and-intro (le-leb (startOf n) p (omega (arith, m))) (lt-ltb p (startOf n + 8) (omega (arith, m))))
 
-  pub by-name : (p : ℕ) (k : Ticket) → (within (startOf n) 8 p && hasNumber (n .number) k) ≡ (isLive (k .kind) && eqName (nameAt p k) n)
+  pub by-name : (p : ℕ) (k : Ticket) → (among (startOf n) 8 p && hasNumber (n .number) k) ≡ (isLive (k .kind) && eqName (nameAt p k) n)
   unfolding hasNumber eqName
   by-name p k =
       ap (λ (b : Bool). b && (isLive (k .kind) && eqb (k .number) (n .number))) (of-program p)

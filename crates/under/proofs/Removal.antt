@@ -23,11 +23,11 @@ use Rattle.lookup.proofs.Laws.{decoded-sized}
 use Rattle.in_place.specs.Shows.{Holds}
 use Rattle.pad_places.specs.Places.{onPad}
 use Rattle.pad_places.proofs.Rows.{on-pad}
-use Rattle.clearing.specs.Cleared.{isMarked, within, Cleared}
+use Rattle.clearing.specs.Cleared.{isMarked, among, Cleared}
 use Rattle.under.specs.Marks.{goes, underOn, markOf, marksOf}
 use Rattle.under.specs.Docked.{dockedWith, dockedTo, dockedOn, Heads}
 use Rattle.under.specs.Linked.{Linked}
-use Rattle.clearing.proofs.Laws.{is-within, holds-dropped}
+use Rattle.clearing.proofs.Laws.{is-among, holds-dropped}
 use Rattle.under.proofs.Names.{live-named, own-index}
 use Rattle.under.proofs.Walks.{place, Here, here-at, name-marks, leads, Away, name-missed, far}
 
@@ -78,11 +78,11 @@ module _ (before after marks : List ℕ) (a : ℕ) (c : Cleared (64 * a) 64 (λ 
           spares (nameAt p (placed t p)) ne (live-named t (p / 64) (p / 8 % 8) (p % 8) d l)
 
     by-marks : (p : ℕ) → p < 256
-        → (within (64 * a) 64 p && isMarked marks (p - 64 * a) (placed t p)) ≡ (isLive (placed t p .kind) && names (nameAt p (placed t p)))
+        → (among (64 * a) 64 p && isMarked marks (p - 64 * a) (placed t p)) ≡ (isLive (placed t p .kind) && names (nameAt p (placed t p)))
     by-marks p h =
-        picks (within (64 * a) 64 p) (isLive (placed t p .kind)) (eqb (getD marks (p - 64 * a) 0) 1) (names (nameAt p (placed t p)))
+        picks (among (64 * a) 64 p) (isLive (placed t p .kind)) (eqb (getD marks (p - 64 * a) 0) 1) (names (nameAt p (placed t p)))
         (λ l w.
-        let i = is-within (64 * a) 64 p w in
+        let i = is-among (64 * a) 64 p w in
         on-the-pad p h l (omega (arith, leb-true (64 * a) p (i .low), ltb-true p (64 * a + 64) (i .high))))
         (λ l w.
         on-another p h l

@@ -44,20 +44,20 @@ array-share-prefix-children : tie.Need-array-share-prefix-children
 array-share-prefix-children c =
     let c7 = c .before .before .before .before .before .before .before in
     let x = c7 .programs-ok .ensures .1 (not-false _ (c .before .if1 .left)) in
-    omega (arith, x .under .most)
+    omega (arith, x .childrenListed .most)
 
 slice-aggregate-chains-ok-2 : tie.Need-slice-aggregate-chains-ok-2
 slice-aggregate-chains-ok-2 c =
     let c8 = c .before .before .before .before .before .before .before .before in
     let x = c8 .programs-ok .ensures .1 (not-false _ (c .before .before .if1 .left)) in
-    sym (length-take-le (c8 .programs-ok .result .children) (c8 .programs-ok .last .1 .1 .1 .0) (omega (arith, x .under .most, c8 .programs-ok .kept .1 .1 .1 .0)))
+    sym (length-take-le (c8 .programs-ok .result .children) (c8 .programs-ok .last .1 .1 .1 .0) (omega (arith, x .childrenListed .most, c8 .programs-ok .kept .1 .1 .1 .0)))
 
 chains-ok-requires : tie.Need-chains-ok-requires
 chains-ok-requires c κs =
     let c8 = c .before .before .before .before .before .before .before .before in
     let c14 = c8 .before .before .before .before .before .before in
     let x = c8 .programs-ok .ensures .1 (not-false _ (c .before .before .if1 .left)) in
-    (c14 .pre, (omega (arith, c8 .programs-ok .kept .1 .0), listed-front _ _ _ _ _ _ (x .under) (omega (arith, x .under .most, c8 .programs-ok .kept .1 .1 .1 .0))))
+    (c14 .pre, (omega (arith, c8 .programs-ok .kept .1 .0), listed-front _ _ _ _ _ _ (x .childrenListed) (omega (arith, x .childrenListed .most, c8 .programs-ok .kept .1 .1 .1 .0))))
 
 returns-2 : tie.Need-returns-2
 returns-2 c =
@@ -79,14 +79,14 @@ array-share-prefix-taken c =
     let c5 = c .before .before .before .before .before in
     let c11 = c5 .before .before .before .before .before .before in
     let x = c11 .programs-ok .ensures .1 (not-false _ (c5 .if1 .left)) in
-    omega (arith, x .grants .most)
+    omega (arith, x .takenListed .most)
 
 slice-aggregate-entries-ok-2 : tie.Need-slice-aggregate-entries-ok-2
 slice-aggregate-entries-ok-2 c =
     let c6 = c .before .before .before .before .before .before in
     let c12 = c6 .before .before .before .before .before .before in
     let x = c12 .programs-ok .ensures .1 (not-false _ (c6 .if1 .left)) in
-    sym (length-take-le (c12 .programs-ok .result .taken) (c12 .programs-ok .last .1 .1 .0) (omega (arith, x .grants .most, c12 .programs-ok .kept .1 .1 .0)))
+    sym (length-take-le (c12 .programs-ok .result .taken) (c12 .programs-ok .last .1 .1 .0) (omega (arith, x .takenListed .most, c12 .programs-ok .kept .1 .1 .0)))
 
 slice-aggregate-entries-ok-3 : tie.Need-slice-aggregate-entries-ok-3
 slice-aggregate-entries-ok-3 c = search needs
@@ -101,8 +101,8 @@ entries-ok-requires c κs =
       (
         omega (arith, c13 .programs-ok .kept .1 .0),
         (
-          listed-front _ _ _ _ _ _ (x .grants)
-              (omega (arith, x .grants .most, c13 .programs-ok .kept .1 .1 .0)),
+          listed-front _ _ _ _ _ _ (x .takenListed)
+              (omega (arith, x .takenListed .most, c13 .programs-ok .kept .1 .1 .0)),
           refl,
         ),
       ),
@@ -132,21 +132,21 @@ array-share-prefix-children-2 c =
     let c12 = c .before .before .before .before .before .before .before .before .before .before .before .before in
     let c18 = c12 .before .before .before .before .before .before in
     let x = c18 .programs-ok .ensures .1 (not-false _ (c12 .if1 .left)) in
-    omega (arith, x .under .most)
+    omega (arith, x .childrenListed .most)
 
 slice-aggregate-recalls-ok-3 : tie.Need-slice-aggregate-recalls-ok-3
 slice-aggregate-recalls-ok-3 c =
     let c13 = c .before .before .before .before .before .before .before .before .before .before .before .before .before in
     let c19 = c13 .before .before .before .before .before .before in
     let x = c19 .programs-ok .ensures .1 (not-false _ (c13 .if1 .left)) in
-    sym (length-take-le (c19 .programs-ok .result .children) (c19 .programs-ok .last .1 .1 .1 .0) (omega (arith, x .under .most, c19 .programs-ok .kept .1 .1 .1 .0)))
+    sym (length-take-le (c19 .programs-ok .result .children) (c19 .programs-ok .last .1 .1 .1 .0) (omega (arith, x .childrenListed .most, c19 .programs-ok .kept .1 .1 .1 .0)))
 
 array-share-prefix-recalls : tie.Need-array-share-prefix-recalls
 array-share-prefix-recalls c =
     let c13 = c .before .before .before .before .before .before .before .before .before .before .before .before .before in
     let c19 = c13 .before .before .before .before .before .before in
     let x = c19 .programs-ok .ensures .1 (not-false _ (c13 .if1 .left)) in
-    omega (arith, x .back .most)
+    omega (arith, x .recallsListed .most)
 
 slice-aggregate-recalls-ok-4 : tie.Need-slice-aggregate-recalls-ok-4
 slice-aggregate-recalls-ok-4 c =
@@ -154,7 +154,7 @@ slice-aggregate-recalls-ok-4 c =
     let c20 = c14 .before .before .before .before .before .before in
     let x = c20 .programs-ok .ensures .1 (not-false _ (c14 .if1 .left)) in
     sym (length-take-le (c20 .programs-ok .result .recalls) (c20 .programs-ok .last .1 .1 .1 .1 .0)
-    (omega (arith, x .back .most, c20 .programs-ok .kept .1 .1 .1 .1 .0)))
+    (omega (arith, x .recallsListed .most, c20 .programs-ok .kept .1 .1 .1 .1 .0)))
 
 recalls-ok-requires : tie.Need-recalls-ok-requires
 recalls-ok-requires c κs =
@@ -169,8 +169,8 @@ recalls-ok-requires c κs =
     let p = sym (c20 .programs-ok .ensures .0 (decode image) (decoded-sized image) (flattened image)) ∙ good in
     let ix = numbered (decode image) (decoded-sized image) (rule-1 image (c26 .pre) (decode image) p) _ _ (flattened image) _ (x .written) in
     let e = c6 .entries-ok .ensures (decode image) (flattened image) (entries-decoded image) ix (rule-2 image (c26 .pre) (decode image) p) in
-    let under = listed-front _ _ _ _ _ _ (x .under) (omega (arith, x .under .most, c20 .programs-ok .kept .1 .1 .1 .0)) in
-    let back = listed-front _ _ _ _ _ _ (x .back) (omega (arith, x .back .most, c20 .programs-ok .kept .1 .1 .1 .1 .0)) in
+    let under = listed-front _ _ _ _ _ _ (x .childrenListed) (omega (arith, x .childrenListed .most, c20 .programs-ok .kept .1 .1 .1 .0)) in
+    let back = listed-front _ _ _ _ _ _ (x .recallsListed) (omega (arith, x .recallsListed .most, c20 .programs-ok .kept .1 .1 .1 .1 .0)) in
     (c26 .pre, (omega (arith, c20 .programs-ok .kept .1 .0), (e .noted (not-false _ (c4 .if3 .left)) .long, (under, back))))
 
 returns-4 : tie.Need-returns-4

@@ -134,35 +134,35 @@ cast-place c = search needs
 mul-taken : tie.Need-mul-taken Inv-loop μ-loop
 mul-taken c =
     let c8 = c .before .before .before .before .before .before .before .before in
-    omega (arith, c8 .loop .inv .1 .grants .most, c8 .loop .inv .0)
+    omega (arith, c8 .loop .inv .1 .takenListed .most, c8 .loop .inv .0)
 
 slice-write-taken : tie.Need-slice-write-taken Inv-loop μ-loop
 slice-write-taken c =
     let c7 = c .before .before .before .before .before .before .before in
     let c8 = c7 .before in
-    omega (arith, c8 .loop .inv .1 .grants .most, c8 .loop .inv .1 .long .0, c7 .loop-test .taken)
+    omega (arith, c8 .loop .inv .1 .takenListed .most, c8 .loop .inv .1 .long .0, c7 .loop-test .taken)
 
 mul-children : tie.Need-mul-children Inv-loop μ-loop
 mul-children c =
     let c8 = c .before .before .before .before .before .before .before .before in
-    omega (arith, c8 .loop .inv .1 .under .most, c8 .loop .inv .0)
+    omega (arith, c8 .loop .inv .1 .childrenListed .most, c8 .loop .inv .0)
 
 slice-write-children : tie.Need-slice-write-children Inv-loop μ-loop
 slice-write-children c =
     let c7 = c .before .before .before .before .before .before .before in
     let c8 = c7 .before in
-    omega (arith, c8 .loop .inv .1 .under .most, c8 .loop .inv .1 .long .1 .0, c7 .loop-test .taken)
+    omega (arith, c8 .loop .inv .1 .childrenListed .most, c8 .loop .inv .1 .long .1 .0, c7 .loop-test .taken)
 
 mul-recalls : tie.Need-mul-recalls Inv-loop μ-loop
 mul-recalls c =
     let c8 = c .before .before .before .before .before .before .before .before in
-    omega (arith, c8 .loop .inv .1 .back .most, c8 .loop .inv .0)
+    omega (arith, c8 .loop .inv .1 .recallsListed .most, c8 .loop .inv .0)
 
 slice-write-recalls : tie.Need-slice-write-recalls Inv-loop μ-loop
 slice-write-recalls c =
     let c7 = c .before .before .before .before .before .before .before in
     let c8 = c7 .before in
-    omega (arith, c8 .loop .inv .1 .back .most, c8 .loop .inv .1 .long .1 .1, c7 .loop-test .taken)
+    omega (arith, c8 .loop .inv .1 .recallsListed .most, c8 .loop .inv .1 .long .1 .1, c7 .loop-test .taken)
 
 is-taken-requires : tie.Need-is-taken-requires Inv-loop μ-loop
 is-taken-requires c κs = search needs
@@ -174,7 +174,7 @@ add-a : tie.Need-add-a Inv-loop μ-loop
 add-a c =
     let c9 = c .before .before .before .before .before .before .before .before .before in
     let c10 = c9 .before in
-    omega (arith, c10 .loop .inv .1 .grants .most, c9 .loop-test .taken, c .one-if .ensures .1)
+    omega (arith, c10 .loop .inv .1 .takenListed .most, c9 .loop-test .taken, c .one-if .ensures .1)
 
 is-child-requires : tie.Need-is-child-requires Inv-loop μ-loop
 is-child-requires c κs = search needs
@@ -186,7 +186,7 @@ add-b : tie.Need-add-b Inv-loop μ-loop
 add-b c =
     let c11 = c .before .before .before .before .before .before .before .before .before .before .before in
     let c12 = c11 .before in
-    omega (arith, c12 .loop .inv .1 .under .most, c11 .loop-test .taken, c .one-if2 .ensures .1)
+    omega (arith, c12 .loop .inv .1 .childrenListed .most, c11 .loop-test .taken, c .one-if2 .ensures .1)
 
 is-recall-requires : tie.Need-is-recall-requires Inv-loop μ-loop
 is-recall-requires c κs = search needs
@@ -198,7 +198,7 @@ add-c : tie.Need-add-c Inv-loop μ-loop
 add-c c =
     let c13 = c .before .before .before .before .before .before .before .before .before .before .before .before .before in
     let c14 = c13 .before in
-    omega (arith, c14 .loop .inv .1 .back .most, c13 .loop-test .taken, c .one-if3 .ensures .1)
+    omega (arith, c14 .loop .inv .1 .recallsListed .most, c13 .loop-test .taken, c .one-if3 .ensures .1)
 
 loop-less : tie.Need-loop-less Inv-loop μ-loop
 loop-less c =
