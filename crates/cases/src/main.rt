@@ -3,7 +3,7 @@
 ghost use mathlib.Core.Path.{_≡_};
 ghost use lib.ListN.{length};
 ghost use Rattle.text.specs.Bytes.{sameBytes};
-ghost use Rattle.tracing.specs.Trace.{trace};
+ghost use Rattle.trace_texts.specs.Trace.{trace};
 
 // ---- a file
 

@@ -2,7 +2,7 @@
 ghost use Prim.Native.Nat.{_≤_};
 ghost use mathlib.Core.Path.{_≡_};
 ghost use lib.ListN.{length, take};
-ghost use Rattle.tracing.specs.Trace.{trace};
+ghost use Rattle.trace_texts.specs.Trace.{trace};
 
 // The trace in a buffer that every trace fits into: it is never refused.
 fn whole_trace(input: &[u8], out: &mut [u8]) -> usize

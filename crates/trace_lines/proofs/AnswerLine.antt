@@ -10,7 +10,7 @@ use Rattle.machine.specs.State.{answerOf}
 use Rattle.text.specs.Writing.{places, Writes}
 use Rattle.text.proofs.WritingLaws.{writes-fits, places-most}
 use Rattle.text.proofs.WritingSteps.{length-line, line-none}
-use Rattle.trace_lines.specs.Line.{answerLine, otherLine}
+use Rattle.trace_texts.specs.Line.{answerLine, otherLine}
 
 module _ (number : ℕ) (a : Answer) (byte : ℕ) where
   answer-long : length (answerLine number a byte)

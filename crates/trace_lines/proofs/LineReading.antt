@@ -11,7 +11,7 @@ use Rattle.lists.proofs.Tests.{Case, pass, fail, case, contradiction}
 use Rattle.machine.specs.declared.Request.{Request}
 use Rattle.text.specs.Reading.{hasValues, valuesOf}
 use Rattle.trace_lines.specs.declared.Asked.{Asked}
-use Rattle.trace_lines.specs.Line.{requestOf, fillOf, fillOk, inForm}
+use Rattle.trace_texts.specs.Line.{requestOf, fillOf, fillOk, inForm}
 use Rattle.trace_lines.specs.Appending.{Reads}
 
 abbrev pub asked : Bool → Request → ℕ → Asked

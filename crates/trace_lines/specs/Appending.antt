@@ -8,7 +8,7 @@ use lib.ListN.{length, take, drop}
 use Rattle.machine.specs.declared.Request.{Request}
 use Rattle.text.specs.Reading.{valuesOf}
 use Rattle.trace_lines.specs.declared.Asked.{Asked}
-use Rattle.trace_lines.specs.Line.{requestOf, fillOf, inForm}
+use Rattle.trace_texts.specs.Line.{requestOf, fillOf, inForm}
 
 pub record Appends (text before after : List ℕ) (at answer : ℕ) : Type 0 where
   pub total : answer ≡ at + length text

@@ -4,7 +4,7 @@ ghost use mathlib.Core.Path.{_≡_};
 ghost use mathlib.Core.Bool.{_&&_, cond};
 ghost use lib.Dec.{eqb};
 ghost use lib.ListN.{length, getD, replicate};
-ghost use Rattle.trace_lines.specs.Line as spec;
+ghost use Rattle.trace_texts.specs.Line as spec;
 ghost use Rattle.trace_lines.specs.Appending.{Appends, Reads};
 use machine::Answer;
 use machine::Request;

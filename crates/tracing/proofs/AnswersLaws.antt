@@ -15,9 +15,9 @@ use Rattle.machine.specs.Empty.{emptyDock}
 use Rattle.machine.specs.Sequence.{enter}
 use Rattle.text.specs.Bytes.{bytes, space, lineEnd}
 use Rattle.text.specs.Reading.{inFront, cut, lines, fields, isValue, hasValues}
-use Rattle.trace_lines.specs.Line.{inForm, sentBy, answerLine, firstByte, otherLine}
+use Rattle.trace_texts.specs.Line.{inForm, sentBy, answerLine, firstByte, otherLine}
 use Rattle.trace_lines.proofs.AnswerLine.{answer-short, other-short}
-use Rattle.tracing.specs.Trace.{outputNames, answers, behindNames, inputOk, trace}
+use Rattle.trace_texts.specs.Trace.{outputNames, answers, behindNames, inputOk, trace}
 
 -- ---- line by line
 -- what the request of a line meets and leaves

@@ -1,4 +1,3 @@
 pub mod AnswersLaws
 pub mod TraceSteps
 pub mod WholeTrace
-pub mod WholeTexts

@@ -29,10 +29,10 @@ use Rattle.text.specs.Bytes.{lineEnd}
 use Rattle.text.specs.Reading.{lines}
 use Rattle.text.proofs.ReadingLaws.{upTo, lines-first, lines-none}
 use Rattle.trace_lines.specs.declared.Asked.{Asked}
-use Rattle.trace_lines.specs.Line.{inForm, sentBy, answerLine, firstByte, otherLine}
+use Rattle.trace_texts.specs.Line.{inForm, sentBy, answerLine, firstByte, otherLine}
 use Rattle.trace_lines.specs.Appending.{Appends, Reads}
 use Rattle.trace_lines.proofs.Appending.{append-none, append-both}
-use Rattle.tracing.specs.Trace.{answers}
+use Rattle.trace_texts.specs.Trace.{answers}
 use Rattle.tracing.proofs.AnswersLaws.{servedBy, answers-none, answers-served, answers-other, answers-fit}
 
 -- the answers to the rest

@@ -14,10 +14,10 @@ use Rattle.text.specs.Reading.{lines, cut}
 use Rattle.text.specs.Writing.{Writes}
 use Rattle.text.proofs.ReadingLaws.{upTo, lines-first}
 use Rattle.text.proofs.WritingLaws.{writes-fits}
-use Rattle.trace_lines.specs.Line.{otherLine}
+use Rattle.trace_texts.specs.Line.{otherLine}
 use Rattle.trace_lines.specs.Appending.{Appends}
 use Rattle.trace_lines.proofs.Appending.{append-both}
-use Rattle.tracing.specs.Trace.{inputNames, outputNames, answers, named, behindNames, inputOk, trace}
+use Rattle.trace_texts.specs.Trace.{inputNames, outputNames, answers, named, behindNames, inputOk, trace}
 use Rattle.tracing.proofs.AnswersLaws.{trace-short}
 
 -- ---- the input's names

@@ -10,7 +10,7 @@ ghost use Rattle.text.specs.Bytes.{sameBytes};
 ghost use Rattle.text.specs.Reading.{lines};
 ghost use Rattle.text.specs.Writing.{Writes};
 ghost use Rattle.trace_lines.specs.Appending.{Appends};
-ghost use Rattle.tracing.specs.Trace as spec;
+ghost use Rattle.trace_texts.specs.Trace as spec;
 
 // The longest input, in bytes.
 const LONGEST: usize = 65536;

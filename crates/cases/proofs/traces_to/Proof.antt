@@ -8,7 +8,7 @@ use borrow.Author.Needs.{needs}
 use Rattle.text.specs.Bytes.{sameBytes}
 use Rattle.text.specs.Writing.{Writes}
 use Rattle.text.proofs.WritingLaws.{written-within}
-use Rattle.tracing.specs.Trace.{trace}
+use Rattle.trace_texts.specs.Trace.{trace}
 use Rattle.tracing.proofs.WholeTrace.{whole-in-buffer}
 use Rattle.cases.proofs.traces_to.Statement.{statement}
 use Rattle.cases.proofs.traces_to.Tie as tie

@@ -1,6 +1,6 @@
 -- Each return is one case of the definition.
 use borrow.Author.Tests.{eq-eqb, ne-eqb}
-use Rattle.trace_lines.specs.Line.{fillOk}
+use Rattle.trace_texts.specs.Line.{fillOk}
 use Rattle.trace_lines.proofs.fill_ok.Statement.{statement}
 use Rattle.trace_lines.proofs.fill_ok.Tie as tie
 

@@ -5,7 +5,7 @@ use mathlib.Core.Path.{sym}
 use lib.ListN.{length-replicate}
 use lib.Seq.{length-take-le}
 use borrow.Author.Needs.{needs}
-use Rattle.trace_lines.specs.Line.{answerLine}
+use Rattle.trace_texts.specs.Line.{answerLine}
 use Rattle.trace_lines.proofs.AnswerLine.{answer-short, made-long, made-line}
 use Rattle.trace_lines.proofs.Appending.{append-rest, append-beyond}
 use Rattle.trace_lines.proofs.put_answer.Statement.{statement}

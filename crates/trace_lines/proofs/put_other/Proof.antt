@@ -1,6 +1,6 @@
 -- The line of another form is the answer with the result 15.
 use borrow.Author.Needs.{needs}
-use Rattle.trace_lines.specs.Line.{otherLine}
+use Rattle.trace_texts.specs.Line.{otherLine}
 use Rattle.trace_lines.proofs.put_other.Statement.{statement}
 use Rattle.trace_lines.proofs.put_other.Tie as tie
 

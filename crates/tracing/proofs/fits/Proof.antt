@@ -6,7 +6,7 @@ use lib.Dec.{leb}
 use lib.ListN.{length}
 use borrow.Author.Needs.{needs}
 use borrow.Author.Tests.{le-leb}
-use Rattle.tracing.specs.Trace.{trace}
+use Rattle.trace_texts.specs.Trace.{trace}
 use Rattle.tracing.proofs.AnswersLaws.{trace-short}
 use Rattle.tracing.proofs.fits.Statement.{statement}
 use Rattle.tracing.proofs.fits.Tie as tie

@@ -6,7 +6,7 @@ use lib.Seq.{length-take-le}
 use borrow.Author.Needs.{needs}
 use borrow.Author.Tests.{le-leb, lt-leb}
 use Rattle.text.specs.Bytes.{bytes}
-use Rattle.tracing.specs.Trace.{inputNames}
+use Rattle.trace_texts.specs.Trace.{inputNames}
 use Rattle.tracing.proofs.input_ok.Statement.{statement}
 use Rattle.tracing.proofs.input_ok.Tie as tie
 

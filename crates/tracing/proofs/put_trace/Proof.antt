@@ -9,7 +9,7 @@ use borrow.Author.Tests.{leb-true, not-true, not-false}
 use Rattle.lists.proofs.Tests.{and-l}
 use Rattle.lists.proofs.Search.{first-within}
 use Rattle.text.specs.Bytes.{bytes}
-use Rattle.tracing.specs.Trace.{outputNames}
+use Rattle.trace_texts.specs.Trace.{outputNames}
 use Rattle.tracing.proofs.WholeTrace.{input-ok-is, lines-behind, refused-trace, served-trace}
 use Rattle.tracing.proofs.put_trace.Statement.{statement}
 use Rattle.tracing.proofs.put_trace.Tie as tie

@@ -6,7 +6,7 @@ use borrow.Author.Needs.{needs}
 use borrow.Author.Tests.{leb-true, leb-false, not-true, not-false}
 use Rattle.text.proofs.WritingLaws.{writes-none, writes-all}
 use Rattle.trace_lines.proofs.Appending.{written-front}
-use Rattle.tracing.specs.Trace.{trace}
+use Rattle.trace_texts.specs.Trace.{trace}
 use Rattle.tracing.proofs.trace.Statement.{statement}
 use Rattle.tracing.proofs.trace.Tie as tie
 

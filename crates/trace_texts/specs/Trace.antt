@@ -10,7 +10,7 @@ use Rattle.machine.specs.Empty.{emptyDock}
 use Rattle.machine.specs.Sequence.{enter}
 use Rattle.text.specs.Bytes.{bytes, lineEnd, sameBytes}
 use Rattle.text.specs.Reading.{lines}
-use Rattle.trace_lines.specs.Line.{inForm, sentBy, answerLine, firstByte, otherLine}
+use Rattle.trace_texts.specs.Line.{inForm, sentBy, answerLine, firstByte, otherLine}
 
 -- ---- names
 unfoldable pub inputNames : List ℕ

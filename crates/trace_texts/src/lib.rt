@@ -1,0 +1,1 @@
+// The texts of the trace program: definitions and computed cases only.
