@@ -16,9 +16,9 @@ use Rattle.machine.specs.Step.{step}
 use Rattle.preservation.proofs.StepKeepsOrder.{PassesTests, step-keeps-tests}
 use Rattle.image.specs.Image.{encode, decode, isImage}
 use Rattle.image.proofs.RoundTrip.{encode-decode, encode-is-image}
-use Rattle.lookup.proofs.Laws.{decoded-sized}
-use Rattle.served.specs.Outcomes.{stateOf}
-use Rattle.serve.specs.Contract.{LeavesLent}
+use Rattle.image_find.proofs.Laws.{decoded-sized}
+use Rattle.op_outcome.specs.Outcomes.{stateOf}
+use Rattle.op_serve.specs.Contract.{LeavesLent}
 use Rattle.batch.specs.Numbers.{requestAt, answerNumbers}
 use Rattle.batch.specs.Sequence.{Start, met, outcomeAt, startWith, AllServed}
 use Rattle.batch.proofs.Numbers.{answer-long}

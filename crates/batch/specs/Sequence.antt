@@ -9,7 +9,7 @@ use Rattle.tables.specs.declared.Tables.{Tables}
 use Rattle.machine.specs.State.{State, Outcome, sheetAt}
 use Rattle.machine.specs.Step.{step}
 use Rattle.image.specs.Image.{encode, decode}
-use Rattle.served.specs.Outcomes.{stateOf}
+use Rattle.op_outcome.specs.Outcomes.{stateOf}
 use Rattle.batch.specs.Numbers.{requestAt, answerNumbers}
 
 -- what the first request meets, and all that is sent: the requests' numbers, and a sheet buffer of 64 bytes for each

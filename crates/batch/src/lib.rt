@@ -7,8 +7,8 @@ ghost use lib.ListN.{length};
 ghost use Rattle.tables.specs.Order.{inOrder, noFarChild};
 ghost use Rattle.machine.specs.Step.{step};
 ghost use Rattle.image.specs.Image.{decode, isImage};
-ghost use Rattle.served.specs.Outcomes.{stateOf};
-ghost use Rattle.serve.specs.Contract.{Lengths, LeavesLent};
+ghost use Rattle.op_outcome.specs.Outcomes.{stateOf};
+ghost use Rattle.op_serve.specs.Contract.{Lengths, LeavesLent};
 ghost use Rattle.batch.specs.Numbers.{requestIn, countOf, answerNumbers};
 ghost use Rattle.batch.specs.Sequence.{startWith, Whole, AllServed};
 ghost use Rattle.batch.specs.Batch.{lengthsFit, buffersOf, Leaves};
@@ -64,12 +64,12 @@ fn serve_one(
     ensures { λ a. ⌜ LeavesLent (step (stateOf (decode (now (tables .entry))) (now (store .entry)) (now (sheet .entry))) r) a (now (tables .exit)) (now (store .exit)) (now (sheet .exit)) ⌝ }
 {
     if sure {
-        return serve::request(tables, store, sheet, r);
+        return op_serve::request(tables, store, sheet, r);
     }
     if !order::image_in_order(tables) {
-        return served::plain(14);
+        return op_outcome::plain(14);
     }
-    serve::request(tables, store, sheet, r)
+    op_serve::request(tables, store, sheet, r)
 }
 
 // The requests one after the other, from tables in order. The first needs no other test of that. Nor do those behind it where `keeps`

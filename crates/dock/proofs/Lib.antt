@@ -1,3 +1,2 @@
-pub mod Found
-pub mod Refusals
-pub mod Laws
+pub mod OneRequest
+pub mod Answers

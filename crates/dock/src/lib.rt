@@ -1,58 +1,109 @@
-// The dock's side of a request: the test of an entry's name, and the dock's own check.
+// The routines that a host in C or Rust calls: include/dock.h declares them. Numbers pass as themselves, a slice as a pointer and then a
+// length. None asks anything of its caller beyond what a slice means: memory of that length, and no overlap.
 ghost use mathlib.Core.Path.{_≡_};
-ghost use Rattle.tables.specs.declared.{Name.Name, Tables.Tables};
-ghost use Rattle.tables.specs.Lookup.{isNamed, entryOf};
-ghost use Rattle.machine.specs.Dock.{dockRefusal};
-use rights::Rights;
-use tables::Entry;
+ghost use Rattle.batch.specs.Batch.{buffersOf, Leaves};
+ghost use Rattle.dock.specs.Host.{emptyImage, EmptiesImage, stepImage, Steps, orderOf, checkImage};
 use tables::Name;
 
-// ---- entries
+// Bytes of the tables' image; numbers of a request.
+const TABLES: usize = 11328;
 
-// Is it the live entry of that name? The number is asked first: it tells most entries apart.
-pub fn is_named(e: Entry, n: Name) -> bool
-    ensures { λ r. ⌜ r ≡ isNamed n e ⌝ }
+const REQUEST: usize = 9;
+
+// The length that the tables' image has.
+#[no_mangle]
+pub extern "C" fn dock_tables_length() -> usize
+    ensures { λ r. ⌜ r ≡ 11328 ⌝ }
 {
-    let name = e.name;
-    if name.number != n.number {
-        return false;
-    }
-    if name.is(n) {
-        return e.live;
-    }
-    false
+    TABLES
 }
 
-// ---- the dock's own check
-
-// Past 14, over the entry that was found: 3, 12, 6, 7 or 0.
-pub fn check(e: Entry, sheet: usize, right: u16) -> u16
-    ensures { λ r. ⌜ ((t : Tables) (n : Name) → entryOf t n ≡ e → r ≡ dockRefusal t n sheet right) ⌝ }
+// Emptying: the image becomes that of empty tables, the store zeros.
+#[no_mangle]
+pub extern "C" fn dock_empty(tables: &mut [u8], store: &mut [u8]) -> u16
+    ensures { λ r. ⌜ EmptiesImage (emptyImage (now (tables .entry)) (now (store .entry))) r (now (tables .exit)) (now (store .exit)) ⌝ }
 {
-    if 255 < sheet {
-        return 3;
+    if tables.len() != TABLES {
+        return 13;
     }
-    if right < 1 {
-        return 3;
+    let emptied = step::empty(store);
+    let t = emptied.tables;
+    image_records::tables(tables, t);
+    emptied.result
+}
+
+// One request. The answer's first number, its result, comes back too.
+#[no_mangle]
+pub extern "C" fn dock_step(
+    tables: &mut [u8],
+    store: &mut [u8],
+    sheet: &mut [u8],
+    request: &[u16],
+    answer: &mut [u16],
+) -> u16
+    ensures { λ r. ⌜ Steps (stepImage (buffersOf (now (tables .entry)) (now (store .entry)) (now (sheet .entry)) (now (request .entry)) (now (answer .entry)))) r (now (tables .exit)) (now (store .exit)) (now (sheet .exit)) (now (answer .exit)) ⌝ }
+{
+    if request.len() != REQUEST {
+        return 13;
     }
-    if 2 < right {
-        return 3;
+    let refusal = batch::serve(tables, store, sheet, request, answer);
+    if refusal != 0 {
+        return refusal;
     }
-    if !e.live {
-        return 12;
+    answer[0]
+}
+
+// Requests one after the other, each as by dock_step.
+#[no_mangle]
+pub extern "C" fn dock_serve(
+    tables: &mut [u8],
+    store: &mut [u8],
+    sheets: &mut [u8],
+    requests: &[u16],
+    answers: &mut [u16],
+) -> u16
+    ensures { λ r. ⌜ Leaves (buffersOf (now (tables .entry)) (now (store .entry)) (now (sheets .entry)) (now (requests .entry)) (now (answers .entry))) r (now (tables .exit)) (now (store .exit)) (now (sheets .exit)) (now (answers .exit)) ⌝ }
+{
+    batch::serve(tables, store, sheets, requests, answers)
+}
+
+// The dock's own check.
+#[no_mangle]
+pub extern "C" fn dock_check(
+    tables: &[u8],
+    pad: u16,
+    program: u16,
+    number: u16,
+    sheet: u16,
+    right: u16,
+) -> u16
+    ensures { λ r. ⌜ r ≡ checkImage (now (tables .entry)) pad program number sheet right ⌝ }
+{
+    if tables.len() != TABLES {
+        return 13;
     }
-    let first = e.first as usize;
-    let count = e.count as usize;
-    if sheet < first {
-        return 6;
+    if !order::image_in_order(tables) {
+        return 14;
     }
-    if first + count <= sheet {
-        return 6;
+    let n = Name {
+        pad: pad,
+        program: program,
+        number: number,
+    };
+    let e = image_find::entry(tables, n);
+    op_check::check(e, sheet as usize, right)
+}
+
+// Are the tables in order? 0, 13 or 14.
+#[no_mangle]
+pub extern "C" fn dock_in_order(tables: &[u8]) -> u16
+    ensures { λ r. ⌜ r ≡ orderOf (now (tables .entry)) ⌝ }
+{
+    if tables.len() != TABLES {
+        return 13;
     }
-    let held = e.rights;
-    let asked = Rights::make(right);
-    if !held.contains(asked) {
-        return 7;
+    if !order::image_in_order(tables) {
+        return 14;
     }
     0
 }

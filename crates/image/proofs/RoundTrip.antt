@@ -18,9 +18,10 @@ use Rattle.tables.specs.declared.{Name.Name, Kind.Kind, Ticket.Ticket, Program.
 use Rattle.tables.specs.declared.Kind.the-variants.{Free, Taken, Received, Child, Recall}
 use Rattle.tables.specs.Names.{nameOf, free, noEntry, noProgram, noPad}
 use Rattle.tables.specs.Lookup.{padAt, Sized}
+use Rattle.image.specs.Layout.{ticketSize, programLast, programSize, padSize, entrySize, entriesStart, entriesSize, imageSize}
 use Rattle.image.specs.Numbers.{bytesOf, numberAt}
-use Rattle.image.specs.Image.{kindNumber, kindOf, ticketNumbers, ticketBytes, ticketIn, programBytes, programIn, padBytes, padIn}
-use Rattle.image.specs.Image.{entryNumbers, entryBytes, entryIn, encode, decode, ticketStart, entryStart, kindsOk, livesOk, isImage}
+use Rattle.image.specs.Image.{kindNumber, kindOf, ticketNumbers, ticketBytes, ticketFrom, programBytes, programFrom, padBytes, padFrom}
+use Rattle.image.specs.Image.{entryNumbers, entryBytes, entryFrom, encode, decode, ticketStart, entryStart, kindsOk, livesOk, isImage}
 use Rattle.image.proofs.NumberLaws.{number-back, number-begins, number-drop, Bytes, bytes-drop, numbers-cut}
 use Rattle.image.proofs.Lengths.{ticket-long, tickets-long, program-long, pad-long, pads-long, entry-long, image-long}
 
@@ -41,10 +42,10 @@ name-back : (n : Name)
     → nameOf (n .pad % 256 + 256 * (n .pad / 256)) (n .program % 256 + 256 * (n .program / 256)) (n .number % 256 + 256 * (n .number / 256)) ≡ n
 name-back n = λ i. nameOf (number-back (n .pad) i) (number-back (n .program) i) (number-back (n .number) i)
 
-pub ticket-back : (k : Ticket) (bytes : List ℕ) → Begins (ticketBytes k) bytes → ticketIn bytes ≡ k
-unfolding ticketBytes ticketNumbers bytesOf ticketIn
+pub ticket-back : (k : Ticket) (bytes : List ℕ) → Begins (ticketBytes k) bytes → ticketFrom bytes ≡ k
+unfolding ticketBytes ticketNumbers bytesOf ticketFrom
 ticket-back k bytes it =
-    ap ticketIn (it .same)
+    ap ticketFrom (it .same)
     ∙ (λ i. record {
       kind = kind-back (k .kind) i;
       number = number-back (k .number) i;
@@ -56,10 +57,10 @@ ticket-back k bytes it =
       dock = name-back (k .dock) i;
     })
 
-pub entry-back : (e : Entry) (bytes : List ℕ) → Begins (entryBytes e) bytes → entryIn bytes ≡ e
-unfolding entryBytes entryNumbers bytesOf entryIn
+pub entry-back : (e : Entry) (bytes : List ℕ) → Begins (entryBytes e) bytes → entryFrom bytes ≡ e
+unfolding entryBytes entryNumbers bytesOf entryFrom
 entry-back e bytes it =
-    ap entryIn (it .same)
+    ap entryFrom (it .same)
     ∙ (λ i. record {
       live = live-back (e .live) i;
       name = name-back (e .name) i;
@@ -77,27 +78,27 @@ module _ (p : Program) (bytes : List ℕ) (it : Begins (programBytes p) bytes) w
   unfolding programBytes
   tickets-begin = begins-front (joined 8 (ticketPart p)) (bytesOf (p .last ∷ [])) bytes it
 
-  ticket-begins : (i : ℕ) → i < 8 → Begins (ticketPart p i) (drop (24 * i) bytes)
-  ticket-begins = part-begins 24 8 ticketBytes free ticket-long (p .tickets) bytes tickets-begin
+  ticket-begins : (i : ℕ) → i < 8 → Begins (ticketPart p i) (drop (ticketSize * i) bytes)
+  ticket-begins = part-begins ticketSize 8 ticketBytes free ticket-long (p .tickets) bytes tickets-begin
 
-  program-back : length (p .tickets) ≡ 8 → programIn bytes ≡ p
-  unfolding programBytes programIn
+  program-back : length (p .tickets) ≡ 8 → programFrom bytes ≡ p
+  unfolding programBytes programFrom
   program-back long =
-      let tickets = parts-back 24 8 ticketBytes free ticketIn ticket-long (p .tickets) bytes tickets-begin long (λ i h. ticket-back _ _) in
-      let behind = begins-behind (joined 8 (ticketPart p)) (bytesOf (p .last ∷ [])) bytes it 192 (tickets-long p) in
-      let last = sym (number-drop 192 bytes) ∙ number-begins (p .last) [] (drop 192 bytes) behind in
+      let tickets = parts-back ticketSize 8 ticketBytes free ticketFrom ticket-long (p .tickets) bytes tickets-begin long (λ i h. ticket-back _ _) in
+      let behind = begins-behind (joined 8 (ticketPart p)) (bytesOf (p .last ∷ [])) bytes it programLast (tickets-long p) in
+      let last = sym (number-drop programLast bytes) ∙ number-begins (p .last) [] (drop programLast bytes) behind in
       λ i. record { tickets = tickets i; last = last i }
 
 module _ (p : Pad) (bytes : List ℕ) (it : Begins (padBytes p) bytes) where
-  program-begins : (i : ℕ) → i < 8 → Begins (programBytes (getD (p .programs) i noProgram)) (drop (194 * i) bytes)
+  program-begins : (i : ℕ) → i < 8 → Begins (programBytes (getD (p .programs) i noProgram)) (drop (programSize * i) bytes)
   unfolding padBytes
-  program-begins = part-begins 194 8 programBytes noProgram program-long (p .programs) bytes it
+  program-begins = part-begins programSize 8 programBytes noProgram program-long (p .programs) bytes it
 
-  pad-back : length (p .programs) ≡ 8 → ((i : ℕ) → i < 8 → length (getD (p .programs) i noProgram .tickets) ≡ 8) → padIn bytes ≡ p
-  unfolding padBytes padIn
+  pad-back : length (p .programs) ≡ 8 → ((i : ℕ) → i < 8 → length (getD (p .programs) i noProgram .tickets) ≡ 8) → padFrom bytes ≡ p
+  unfolding padBytes padFrom
   pad-back long each =
       let programs =
-      parts-back 194 8 programBytes noProgram programIn program-long (p .programs) bytes it long (λ i h b. program-back _ _ b (each i h)) in
+      parts-back programSize 8 programBytes noProgram programFrom program-long (p .programs) bytes it long (λ i h b. program-back _ _ b (each i h)) in
       λ i. record { programs = programs i }
 
 module _ (t : Tables) where
@@ -111,38 +112,38 @@ module _ (t : Tables) where
   unfolding encode
   pads-begin = begins-front (joined 4 padPart) (joined 256 entryPart) (encode t) (begins-all (encode t))
 
-  entries-begin : Begins (joined 256 entryPart) (drop 6208 (encode t))
+  entries-begin : Begins (joined 256 entryPart) (drop entriesStart (encode t))
   unfolding encode
-  entries-begin = begins-behind (joined 4 padPart) (joined 256 entryPart) (encode t) (begins-all (encode t)) 6208 (pads-long t)
+  entries-begin = begins-behind (joined 4 padPart) (joined 256 entryPart) (encode t) (begins-all (encode t)) entriesStart (pads-long t)
 
 -- the entries stand behind the pads
-entries-in : (bytes : List ℕ) → decode bytes .entries ≡ tabulate 256 (λ i. entryIn (drop (20 * i) (drop 6208 bytes)))
+entries-in : (bytes : List ℕ) → decode bytes .entries ≡ tabulate 256 (λ i. entryFrom (drop (entrySize * i) (drop entriesStart bytes)))
 unfolding decode
-entries-in bytes = λ j. tabulate 256 (λ i. entryIn (sym (drop-drop (20 * i) 6208 bytes) j))
+entries-in bytes = λ j. tabulate 256 (λ i. entryFrom (sym (drop-drop (entrySize * i) entriesStart bytes) j))
 
 pub decode-encode : (t : Tables) → Sized t → decode (encode t) ≡ t
 unfolding decode
 decode-encode t s =
     let pads =
-    parts-back 1552 4 padBytes noPad padIn pad-long (t .pads) (encode t) (pads-begin t) (s .pads)
+    parts-back padSize 4 padBytes noPad padFrom pad-long (t .pads) (encode t) (pads-begin t) (s .pads)
     (λ i h b. pad-back _ _ b (s .programs i h) (λ j low. s .tickets i j h low)) in
     let entries =
     entries-in (encode t)
-    ∙ parts-back 20 256 entryBytes noEntry entryIn entry-long (t .entries) (drop 6208 (encode t)) (entries-begin t) (s .entries)
+    ∙ parts-back entrySize 256 entryBytes noEntry entryFrom entry-long (t .entries) (drop entriesStart (encode t)) (entries-begin t) (s .entries)
     (λ i h. entry-back _ _) in
     λ i. record { pads = pads i; entries = entries i }
 
 -- ---- what is written is an image
 -- the ticket in place i of program b of pad a
 kind-place : (a b i : ℕ) (bytes : List ℕ) → b < 8 → i < 8
-    → numberAt (ticketStart (64 * a + 8 * b + i)) bytes ≡ numberAt 0 (drop (24 * i) (drop (194 * b) (drop (1552 * a) bytes)))
+    → numberAt (ticketStart (64 * a + 8 * b + i)) bytes ≡ numberAt 0 (drop (ticketSize * i) (drop (programSize * b) (drop (padSize * a) bytes)))
 kind-place a b i bytes hb hi =
     let program : (64 * a + 8 * b + i) / 8 ≡ 8 * a + b = omega arith in
     let place : (64 * a + 8 * b + i) % 8 ≡ i = omega arith in
-    let start : 194 * (8 * a + b) + 24 * i ≡ 1552 * a + (194 * b + 24 * i) = omega arith in
-    rw (program, place, start, drop-drop (24 * i) (194 * b), drop-drop, number-drop)
+    let start : programSize * (8 * a + b) + ticketSize * i ≡ padSize * a + (programSize * b + ticketSize * i) = omega arith in
+    rw (program, place, start, drop-drop (ticketSize * i) (programSize * b), drop-drop, number-drop)
 
-entry-place : (i : ℕ) (bytes : List ℕ) → numberAt (entryStart i) bytes ≡ numberAt 0 (drop (20 * i) (drop 6208 bytes))
+entry-place : (i : ℕ) (bytes : List ℕ) → numberAt (entryStart i) bytes ≡ numberAt 0 (drop (entrySize * i) (drop entriesStart bytes))
 entry-place i bytes = rw (drop-drop, number-drop)
 
 kind-low : (k : Kind) → leb (kindNumber k) 4 ≡ true
@@ -167,7 +168,7 @@ entry-live e bytes it = rw (number-begins (cond (e .live) 1 0) _ bytes it) (live
 module _ (t : Tables) where
   kind-ok : (a b i : ℕ) → a < 4 → b < 8 → i < 8 → leb (numberAt (ticketStart (64 * a + 8 * b + i)) (encode t)) 4 ≡ true
   kind-ok a b i ha hb hi =
-      let pad = part-begins 1552 4 padBytes noPad pad-long (t .pads) (encode t) (pads-begin t) a ha in
+      let pad = part-begins padSize 4 padBytes noPad pad-long (t .pads) (encode t) (pads-begin t) a ha in
       let ticket = ticket-begins _ _ (program-begins _ _ pad b hb) i hi in
       rw (kind-place a b i (encode t) hb hi) (ticket-kind _ _ ticket)
 
@@ -184,11 +185,11 @@ module _ (t : Tables) where
   unfolding livesOk
   lives-ok =
       every-intro 256 (λ place. leb (numberAt (entryStart place) (encode t)) 1)
-      (λ i h. rw entry-place (entry-live _ _ (part-begins 20 256 entryBytes noEntry entry-long (t .entries) _ (entries-begin t) i h)))
+      (λ i h. rw entry-place (entry-live _ _ (part-begins entrySize 256 entryBytes noEntry entry-long (t .entries) _ (entries-begin t) i h)))
 
 pub encode-is-image : (t : Tables) → isImage (encode t) ≡ true
 unfolding isImage
-encode-is-image t = and-intro (and-intro (eq-eqb _ 11328 (image-long t)) (kinds-ok t)) (lives-ok t)
+encode-is-image t = and-intro (and-intro (eq-eqb _ imageSize (image-long t)) (kinds-ok t)) (lives-ok t)
 
 -- ---- what is read from an image is written again
 kind-again : (n : ℕ) → n ≤ 4 → kindNumber (kindOf n) ≡ n
@@ -198,67 +199,67 @@ kind-again n h = eqb-true _ n (below-at 5 (λ m. eqb (kindNumber (kindOf m)) m) 
 live-again : (n : ℕ) → n ≤ 1 → cond (eqb n 1) 1 0 ≡ n
 live-again n h = eqb-true _ n (below-at 2 (λ m. eqb (cond (eqb m 1) 1 0) m) refl n (omega arith))
 
-ticket-again : (bytes : List ℕ) → Bytes 24 bytes → numberAt 0 bytes ≤ 4 → ticketBytes (ticketIn bytes) ≡ take 24 bytes
-unfolding ticketBytes ticketNumbers ticketIn bytesOf tabulate
+ticket-again : (bytes : List ℕ) → Bytes ticketSize bytes → numberAt 0 bytes ≤ 4 → ticketBytes (ticketFrom bytes) ≡ take ticketSize bytes
+unfolding ticketBytes ticketNumbers ticketFrom bytesOf tabulate
 ticket-again bytes b low = rw (kind-again _ low) (numbers-cut 12 bytes b)
 
-entry-again : (bytes : List ℕ) → Bytes 20 bytes → numberAt 0 bytes ≤ 1 → entryBytes (entryIn bytes) ≡ take 20 bytes
-unfolding entryBytes entryNumbers entryIn bytesOf tabulate
+entry-again : (bytes : List ℕ) → Bytes entrySize bytes → numberAt 0 bytes ≤ 1 → entryBytes (entryFrom bytes) ≡ take entrySize bytes
+unfolding entryBytes entryNumbers entryFrom bytesOf tabulate
 entry-again bytes b low = rw (live-again _ low) (numbers-cut 10 bytes b)
 
-program-again : (bytes : List ℕ) → Bytes 194 bytes → ((i : ℕ) → i < 8 → numberAt 0 (drop (24 * i) bytes) ≤ 4)
-    → programBytes (programIn bytes) ≡ take 194 bytes
-unfolding programBytes programIn bytesOf tabulate
+program-again : (bytes : List ℕ) → Bytes programSize bytes → ((i : ℕ) → i < 8 → numberAt 0 (drop (ticketSize * i) bytes) ≤ 4)
+    → programBytes (programFrom bytes) ≡ take programSize bytes
+unfolding programBytes programFrom bytesOf tabulate
 program-again bytes b low =
-    let tickets = parts-cut 24 8 ticketBytes free ticketIn bytes (λ i h. ticket-again _ (bytes-drop (24 * i) 24 (omega arith) b) (low i h)) in
-    let last = ap (λ (n : ℕ). bytesOf (n ∷ [])) (sym (number-drop 192 bytes)) ∙ numbers-cut 1 (drop 192 bytes) (bytes-drop 192 2 (omega arith) b) in
-    (λ i. tickets i ++ last i) ∙ sym (take-add 192 2 bytes)
+    let tickets = parts-cut ticketSize 8 ticketBytes free ticketFrom bytes (λ i h. ticket-again _ (bytes-drop (ticketSize * i) ticketSize (omega arith) b) (low i h)) in
+    let last = ap (λ (n : ℕ). bytesOf (n ∷ [])) (sym (number-drop programLast bytes)) ∙ numbers-cut 1 (drop programLast bytes) (bytes-drop programLast 2 (omega arith) b) in
+    (λ i. tickets i ++ last i) ∙ sym (take-add programLast 2 bytes)
 
-pad-again : (bytes : List ℕ) → Bytes 1552 bytes → ((b i : ℕ) → b < 8 → i < 8 → numberAt 0 (drop (24 * i) (drop (194 * b) bytes)) ≤ 4)
-    → padBytes (padIn bytes) ≡ take 1552 bytes
-unfolding padBytes padIn
+pad-again : (bytes : List ℕ) → Bytes padSize bytes → ((b i : ℕ) → b < 8 → i < 8 → numberAt 0 (drop (ticketSize * i) (drop (programSize * b) bytes)) ≤ 4)
+    → padBytes (padFrom bytes) ≡ take padSize bytes
+unfolding padBytes padFrom
 pad-again bytes b low =
-    parts-cut 194 8 programBytes noProgram programIn bytes
-    (λ i h. program-again _ (bytes-drop (194 * i) 194 (omega arith) b) (λ j. low i j h))
+    parts-cut programSize 8 programBytes noProgram programFrom bytes
+    (λ i h. program-again _ (bytes-drop (programSize * i) programSize (omega arith) b) (λ j. low i j h))
 
 -- ---- the tests of an image
 module _ (bytes : List ℕ) (e : isImage bytes ≡ true) where
-  pub image-whole : length bytes ≡ 11328
+  pub image-whole : length bytes ≡ imageSize
   unfolding isImage
-  image-whole = eqb-true _ 11328 (and-l _ (kindsOk bytes) (and-l _ (livesOk bytes) e))
+  image-whole = eqb-true _ imageSize (and-l _ (kindsOk bytes) (and-l _ (livesOk bytes) e))
 
   pub image-kinds : kindsOk bytes ≡ true
   unfolding isImage
-  image-kinds = and-r (eqb (length bytes) 11328) (kindsOk bytes) (and-l _ (livesOk bytes) e)
+  image-kinds = and-r (eqb (length bytes) imageSize) (kindsOk bytes) (and-l _ (livesOk bytes) e)
 
   pub image-lives : livesOk bytes ≡ true
   unfolding isImage
-  image-lives = and-r (eqb (length bytes) 11328 && kindsOk bytes) (livesOk bytes) e
+  image-lives = and-r (eqb (length bytes) imageSize && kindsOk bytes) (livesOk bytes) e
 
-  kinds : (a b i : ℕ) → a < 4 → b < 8 → i < 8 → numberAt 0 (drop (24 * i) (drop (194 * b) (drop (1552 * a) bytes))) ≤ 4
+  kinds : (a b i : ℕ) → a < 4 → b < 8 → i < 8 → numberAt 0 (drop (ticketSize * i) (drop (programSize * b) (drop (padSize * a) bytes))) ≤ 4
   unfolding kindsOk
   kinds a b i ha hb hi =
       rw (sym (kind-place a b i bytes hb hi))
       (leb-true _ 4 (every-at 256 (λ place. leb (numberAt (ticketStart place) bytes) 4) image-kinds (64 * a + 8 * b + i) (omega arith)))
 
-  lives : (i : ℕ) → i < 256 → numberAt 0 (drop (20 * i) (drop 6208 bytes)) ≤ 1
+  lives : (i : ℕ) → i < 256 → numberAt 0 (drop (entrySize * i) (drop entriesStart bytes)) ≤ 1
   unfolding livesOk
   lives i h =
       rw (sym (entry-place i bytes)) (leb-true _ 1 (every-at 256 (λ place. leb (numberAt (entryStart place) bytes) 1) image-lives i h))
 
-pub is-image : (bytes : List ℕ) → length bytes ≡ 11328 → kindsOk bytes ≡ true → livesOk bytes ≡ true → isImage bytes ≡ true
+pub is-image : (bytes : List ℕ) → length bytes ≡ imageSize → kindsOk bytes ≡ true → livesOk bytes ≡ true → isImage bytes ≡ true
 unfolding isImage
-is-image bytes long kinds lives = and-intro (and-intro (eq-eqb _ 11328 long) kinds) lives
+is-image bytes long kinds lives = and-intro (and-intro (eq-eqb _ imageSize long) kinds) lives
 
 pub encode-decode : (bytes : List ℕ) → ((i : ℕ) → getD bytes i 0 < 256) → isImage bytes ≡ true → encode (decode bytes) ≡ bytes
 unfolding encode decode
 encode-decode bytes small e =
-    let whole : Bytes 11328 bytes = record { long = omega (arith, image-whole bytes e); small = small } in
+    let whole : Bytes imageSize bytes = record { long = omega (arith, image-whole bytes e); small = small } in
     let pads =
-    parts-cut 1552 4 padBytes noPad padIn bytes
-    (λ i h. pad-again _ (bytes-drop (1552 * i) 1552 (omega arith) whole) (λ b j. kinds bytes e i b j h)) in
+    parts-cut padSize 4 padBytes noPad padFrom bytes
+    (λ i h. pad-again _ (bytes-drop (padSize * i) padSize (omega arith) whole) (λ b j. kinds bytes e i b j h)) in
     let entries =
     ap (λ (l : List Entry). joined 256 (λ i. entryBytes (getD l i noEntry))) (entries-in bytes)
-    ∙ parts-cut 20 256 entryBytes noEntry entryIn (drop 6208 bytes)
-    (λ i h. entry-again _ (bytes-drop (20 * i) 20 (omega arith) (bytes-drop 6208 5120 (omega arith) whole)) (lives bytes e i h)) in
-    (λ i. pads i ++ entries i) ∙ sym (take-add 6208 5120 bytes) ∙ take-all 11328 bytes (omega (arith, image-whole bytes e))
+    ∙ parts-cut entrySize 256 entryBytes noEntry entryFrom (drop entriesStart bytes)
+    (λ i h. entry-again _ (bytes-drop (entrySize * i) entrySize (omega arith) (bytes-drop entriesStart entriesSize (omega arith) whole)) (lives bytes e i h)) in
+    (λ i. pads i ++ entries i) ∙ sym (take-add entriesStart entriesSize bytes) ∙ take-all imageSize bytes (omega (arith, image-whole bytes e))

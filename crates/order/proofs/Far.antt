@@ -15,8 +15,8 @@ use Rattle.tables.specs.Lookup.{Sized, lookup}
 use Rattle.tables.specs.Order.{noFarChild}
 use Rattle.tables.proofs.KindLaws.{live-child}
 use Rattle.tables.proofs.ByPlace.{InRange, name-in-range}
-use Rattle.index.specs.Places.{nameAt, Flattened}
-use Rattle.index.proofs.Laws.{every-placed, placed-every}
+use Rattle.image_places.specs.Places.{nameAt, Flattened}
+use Rattle.image_places.proofs.Laws.{every-placed, placed-every}
 use Rattle.order.specs.Far.{isFar}
 use Rattle.tables.specs.Kinds.{isChild, isRecall}
 

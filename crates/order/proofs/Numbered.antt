@@ -17,7 +17,7 @@ use Rattle.tables.specs.Lookup.{Sized, ticketsOf, lastOf}
 use Rattle.tables.specs.Order.{numbersOk, t1}
 use Rattle.tables.proofs.Keys.{ticketKeys, ticketLaws}
 use Rattle.tables.proofs.ByPlace.{ticketAt, numbers-at}
-use Rattle.index.specs.Places.{placed, numberOf, Flattened, Numbered}
+use Rattle.image_places.specs.Places.{placed, numberOf, Flattened, Numbered}
 use Rattle.tables.specs.Kinds.{isLive}
 
 module _ (t : Tables) (z : Sized t) (rule : t1 t ≡ true) where

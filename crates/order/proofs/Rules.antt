@@ -8,9 +8,10 @@ use borrow.Author.Tests.{eq-eqb}
 use Rattle.lists.proofs.Tests.{and-l, and-r, and-intro, cannot-pass, contradiction}
 use Rattle.tables.specs.declared.Tables.{Tables}
 use Rattle.tables.specs.Order.{t1, t2, t3, t4, t5, t6, inOrder}
+use Rattle.image.specs.Layout.{imageSize}
 use Rattle.image.specs.Image.{kindsOk, livesOk, isImage}
 
-module _ (image : List ℕ) (long : length image ≡ 11328) (t : Tables) where
+module _ (image : List ℕ) (long : length image ≡ imageSize) (t : Tables) where
   -- what is to be decided
   abbrev whole : Bool
   whole = isImage image && inOrder t
@@ -66,7 +67,7 @@ module _ (image : List ℕ) (long : length image ≡ 11328) (t : Tables) where
     unfolding inOrder isImage
     last-rule c e =
         rw (
-          eq-eqb (length image) 11328 long,
+          eq-eqb (length image) imageSize long,
           and-l (kindsOk image) (t1 t && t2 t && t4 t) hold,
           and-l (livesOk image) (t5 t) e,
           rule-1,

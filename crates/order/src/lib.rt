@@ -4,26 +4,23 @@ ghost use mathlib.Core.Path.{_≡_};
 ghost use mathlib.Core.Bool.{_&&_};
 ghost use lib.ListN.{length};
 ghost use Rattle.tables.specs.Order.{inOrder, noFarChild};
+ghost use Rattle.image.specs.Layout.{imageSize};
 ghost use Rattle.image.specs.Image.{decode, isImage};
 ghost use Rattle.order.specs.Far.{isFar};
-use tables::Tables;
 use tables::Ticket;
-
-// Bytes of the tables' image.
-const TABLES: usize = 11328;
 
 // Is it an image, and are its tables in order? T1, T2 and T4 first: they need nothing but the programs, one by one. T1 makes the numbers an
 // index of the tickets for T3, T5 and T6, and T5 notes for T6 where the entries are. T3, T5 and T6 look only at the places that are listed
 // for them.
 pub fn image_in_order(image: &[u8]) -> bool
-    requires { ⌜ length (now image) ≡ 11328 ⌝ }
+    requires { ⌜ length (now image) ≡ imageSize ⌝ }
     ensures { λ r. ⌜ r ≡ (isImage (now (image .entry)) && inOrder (decode (now (image .entry)))) ⌝ }
 {
     let mut numbers = [0u16; 256];
     let mut taken = [0u16; 256];
     let mut children = [0u16; 256];
     let mut recalls = [0u16; 256];
-    let n = program_order::programs_ok(
+    let n = order_programs::programs_ok(
         image,
         &mut numbers,
         &mut taken,
@@ -36,23 +33,14 @@ pub fn image_in_order(image: &[u8]) -> bool
     let a = n.taken;
     let b = n.children;
     let c = n.recalls;
-    if !child_order::chains_ok(image, &numbers, &children[..b]) {
+    if !order_children::chains_ok(image, &numbers, &children[..b]) {
         return false;
     }
     let mut notes = [256u16; 256];
-    if !entry_order::entries_ok(image, &numbers, &taken[..a], &mut notes) {
+    if !order_entries::entries_ok(image, &numbers, &taken[..a], &mut notes) {
         return false;
     }
-    recall_order::recalls_ok(image, &numbers, &notes, &children[..b], &recalls[..c])
-}
-
-// The same of tables by value.
-pub fn in_order(t: Tables) -> bool
-    ensures { λ r. ⌜ r ≡ inOrder t ⌝ }
-{
-    let mut image = [0u8; TABLES];
-    encode::tables(&mut image, t);
-    image_in_order(&image)
+    order_recalls::recalls_ok(image, &numbers, &notes, &children[..b], &recalls[..c])
 }
 
 // ---- beside T1 to T6
@@ -79,17 +67,17 @@ fn is_far(place: usize, k: Ticket) -> bool
 // No recall names a live child of another pad. Tables that are not in order may have numbers twice, and live tickets numbered 0: each
 // target is looked for in its program.
 pub fn no_far_child(image: &[u8]) -> bool
-    requires { ⌜ length (now image) ≡ 11328 ⌝ }
+    requires { ⌜ length (now image) ≡ imageSize ⌝ }
     ensures { λ r. ⌜ r ≡ noFarChild (decode (now (image .entry))) ⌝ }
 {
     let mut i: usize = 0;
     while i < 256 {
         let at = i;
-        let k = decode::ticket_at(image, at);
+        let k = image_read::ticket_at(image, at);
         i = i + 1;
         if is_far(at, k) {
             let target = k.other;
-            let found = lookup::ticket(image, target);
+            let found = image_find::ticket(image, target);
             let kind = found.kind;
             if kind.is_child() {
                 return false;

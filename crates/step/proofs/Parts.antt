@@ -15,8 +15,8 @@ use Rattle.machine.specs.Step.{lengthsOk, refusal, outcome, serve, step}
 use Rattle.machine.specs.Empty as machine
 use Rattle.machine.proofs.RefusalLaws.{other-length}
 use Rattle.image.specs.Image.{decode}
-use Rattle.served.specs.Outcomes.{stateOf, outcomeOf, plainly}
-use Rattle.serve.specs.Contract.{LeavesLent, HandsBack}
+use Rattle.op_outcome.specs.Outcomes.{stateOf, outcomeOf, plainly}
+use Rattle.op_serve.specs.Contract.{LeavesLent, HandsBack}
 use Rattle.step.specs.Contract.{Empties}
 
 module _ (t : Tables) (store sheet : List ℕ) (r : Request) where

@@ -4,8 +4,8 @@ ghost use Rattle.tables.specs.Names.{emptyTables};
 ghost use Rattle.machine.specs.Dock.{dockCheck};
 ghost use Rattle.machine.specs.Step.{step};
 ghost use Rattle.machine.specs.Empty.{emptied};
-ghost use Rattle.served.specs.Outcomes.{stateOf, plainly};
-ghost use Rattle.serve.specs.Contract.{HandsBack};
+ghost use Rattle.op_outcome.specs.Outcomes.{stateOf, plainly};
+ghost use Rattle.op_serve.specs.Contract.{HandsBack};
 ghost use Rattle.step.specs.Contract.{Empties};
 use machine::Request;
 use machine::Served;
@@ -60,7 +60,7 @@ pub fn empty(store: &mut [u8]) -> Emptied
             tables: t,
         };
     }
-    store::clear(store);
+    op_sheets::clear(store);
     Emptied {
         result: 0,
         tables: t,
@@ -73,7 +73,7 @@ pub fn empty(store: &mut [u8]) -> Emptied
 fn kept(t: Tables, result: u16) -> Served
     ensures { λ d. ⌜ d ≡ record { answer = plainly result; tables = t } ⌝ }
 {
-    let answer = served::plain(result);
+    let answer = op_outcome::plain(result);
     Served {
         answer: answer,
         tables: t,
@@ -91,12 +91,12 @@ pub fn step(t: Tables, store: &mut [u8], sheet: &mut [u8], r: Request) -> Served
         return kept(t, 13);
     }
     let mut image = [0u8; TABLES];
-    encode::tables(&mut image, t);
+    image_records::tables(&mut image, t);
     if !order::image_in_order(&image) {
         return kept(t, 14);
     }
-    let answer = serve::request(&mut image, store, sheet, r);
-    let left = decode::tables(&image);
+    let answer = op_serve::request(&mut image, store, sheet, r);
+    let left = image_read::tables(&image);
     Served {
         answer: answer,
         tables: left,
@@ -110,10 +110,10 @@ pub fn check(t: Tables, n: Name, sheet: u16, right: u16) -> u16
     ensures { λ r. ⌜ r ≡ dockCheck t n sheet right ⌝ }
 {
     let mut image = [0u8; TABLES];
-    encode::tables(&mut image, t);
+    image_records::tables(&mut image, t);
     if !order::image_in_order(&image) {
         return 14;
     }
-    let e = lookup::entry(&image, n);
-    dock::check(e, sheet as usize, right)
+    let e = image_find::entry(&image, n);
+    op_check::check(e, sheet as usize, right)
 }

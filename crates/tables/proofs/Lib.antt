@@ -1,6 +1,7 @@
 pub mod KindLaws
 pub mod NameLaws
 pub mod Links
+pub mod EntryNamed
 pub mod Keys
 pub mod ByPlace
 pub mod Fits

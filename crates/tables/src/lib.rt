@@ -3,7 +3,7 @@
 ghost use mathlib.Core.Path.{_≡_};
 ghost use Rattle.tables.specs.Kinds.{isLive, isGrant, isHead, isTaken, isReceived, isChild, isRecall};
 ghost use Rattle.tables.specs.Names.{eqName, noName, free, noEntry};
-ghost use Rattle.tables.specs.Lookup.{hasNumber};
+ghost use Rattle.tables.specs.Lookup.{hasNumber, isNamed};
 use rights::Rights;
 
 // A ticket is a grant (taken, received or a child) or a recall, which SADRA calls an indicator. A place with no ticket is free.
@@ -219,6 +219,20 @@ impl Entry {
             count: 0,
             rights: Rights { bits: 0 },
         }
+    }
+
+    // Is it the live entry of that name? The number is asked first: it tells most entries apart.
+    pub fn is_named(self, n: Name) -> bool
+        ensures { λ r. ⌜ r ≡ isNamed n self ⌝ }
+    {
+        let name = self.name;
+        if name.number != n.number {
+            return false;
+        }
+        if name.is(n) {
+            return self.live;
+        }
+        false
     }
 }
 

@@ -10,13 +10,13 @@ fn whole_trace(input: &[u8], out: &mut [u8]) -> usize
     ensures { λ r. ⌜ r ≤ length (now (out .exit)) ⌝ }
     ensures { λ r. ⌜ take r (now (out .exit)) ≡ trace (now (input .entry)) ⌝ }
 {
-    tracing::trace(input, out)
+    text_trace::trace(input, out)
 }
 
 // One byte past the longest input is enough to know that it is too long.
 fn main() {
     let mut input = [0u8; 65537];
-    let mut out = tracing::buffer();
+    let mut out = text_trace::buffer();
     let read = io::read_full(0, &mut input);
     let written = whole_trace(&input[..read], &mut out);
     io::write_all(1, &out[..written]);

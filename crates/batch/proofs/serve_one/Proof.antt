@@ -4,7 +4,7 @@ use borrow.Author.Needs.{needs}
 use Rattle.image.specs.Image.{decode}
 use Rattle.step.proofs.Parts.{not-in-order, is-served}
 use Rattle.image.proofs.RoundTrip.{image-whole}
-use Rattle.serve.proofs.Parts.{left-alone, same-outcome}
+use Rattle.op_serve.proofs.Parts.{left-alone, same-outcome}
 use Rattle.batch.proofs.Refusals.{out-of-order, is-in-order}
 use Rattle.batch.proofs.serve_one.Statement.{statement}
 use Rattle.batch.proofs.serve_one.Tie as tie

@@ -6,9 +6,9 @@ use lib.Seq.{length-take-le}
 use borrow.Author.Needs.{needs}
 use borrow.Author.Tests.{not-true, not-false}
 use Rattle.image.specs.Image.{decode}
-use Rattle.decode.proofs.Places.{entries-decoded}
-use Rattle.lookup.proofs.Laws.{flattened, decoded-sized}
-use Rattle.listing.proofs.Laws.{listed-front}
+use Rattle.image_read.proofs.Places.{entries-decoded}
+use Rattle.image_find.proofs.Laws.{flattened, decoded-sized}
+use Rattle.order_lists.proofs.Laws.{listed-front}
 use Rattle.order.proofs.Numbered.{numbered}
 use Rattle.order.proofs.Rules.{programs-broken, chains-broken, entries-broken, rule-1, rule-2, last-rule}
 use Rattle.order.proofs.image_in_order.Statement.{statement}

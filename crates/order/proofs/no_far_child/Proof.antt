@@ -10,8 +10,8 @@ use Rattle.tables.specs.Kinds.{isChild}
 use Rattle.tables.specs.Names.{free}
 use Rattle.tables.specs.Lookup.{lookup}
 use Rattle.image.specs.Image.{decode}
-use Rattle.decode.specs.Places.{ticketsIn}
-use Rattle.lookup.proofs.Laws.{flattened, decoded-sized}
+use Rattle.image_read.specs.Places.{ticketsIn}
+use Rattle.image_find.proofs.Laws.{flattened, decoded-sized}
 use Rattle.order.specs.Far.{isFar}
 use Rattle.order.proofs.Far.{Passes, no-child, not-far, all-pass, far-child}
 use Rattle.order.proofs.no_far_child.Statement.{statement}

@@ -5,7 +5,7 @@ use Rattle.tables.specs.declared.Tables.{Tables}
 use Rattle.tables.specs.Order.{inOrder}
 use Rattle.tables.proofs.Fits.{tables-fit, tables-sized}
 use Rattle.machine.specs.Step.{serve}
-use Rattle.served.specs.Outcomes.{stateOf}
+use Rattle.op_outcome.specs.Outcomes.{stateOf}
 use Rattle.order.proofs.Written.{written-is, written-back, written-order}
 use Rattle.step.proofs.Parts.{other-store, other-sheet, not-in-order, is-served, kept-back, read-back}
 use Rattle.step.proofs.step.Statement.{statement}

@@ -3,7 +3,7 @@ use native.Mathlib.Omega.{arith}
 use borrow.Author.Needs.{needs}
 use Rattle.text.proofs.WritingLaws.{written-within}
 use Rattle.trace_texts.specs.Trace.{trace}
-use Rattle.tracing.proofs.WholeTrace.{whole-in-buffer}
+use Rattle.text_trace.proofs.WholeTrace.{whole-in-buffer}
 use Rattle.trace.proofs.whole_trace.Statement.{statement}
 use Rattle.trace.proofs.whole_trace.Tie as tie
 

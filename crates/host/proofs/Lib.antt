@@ -1,2 +1,0 @@
-pub mod OneRequest
-pub mod Answers

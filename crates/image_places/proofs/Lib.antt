@@ -1,0 +1,5 @@
+pub mod Search
+pub mod WalkSteps
+pub mod Laying
+pub mod PlaceSteps
+pub mod Laws

@@ -1,0 +1,69 @@
+-- What stands at each place of an image.
+use Prim.Native.Nat.{ℕ, _≤_, _<_}
+use native.Mathlib.Omega.{arith}
+use mathlib.Core.Path.{_≡_, refl, ap, _∙_}
+use mathlib.Core.Bool.{true, false}
+use mathlib.Core.List.{List}
+use lib.Dec.{eqb}
+use lib.ListN.{length, getD, drop}
+use borrow.Author.Tests.{eqb-false}
+use Rattle.lists.proofs.Tests.{Case, pass, fail, case}
+use Rattle.lists.proofs.PartLaws.{length-tabulate, getD-tabulate}
+use Rattle.tables.specs.declared.Ticket.{Ticket}
+use Rattle.tables.specs.Kinds.{isLive}
+use Rattle.tables.specs.Names.{free, noEntry}
+use Rattle.image.specs.Numbers.{numberAt}
+use Rattle.image.specs.Image.{kindOf, ticketFrom, entryFrom, ticketStart, entryStart, decode}
+use Rattle.image.proofs.NumberLaws.{number-drop}
+use Rattle.image_read.specs.Places.{lastStart, ticketsIn, lastsIn, entriesIn}
+
+module _ (bytes : List ℕ) where
+  pub tickets-long : length (ticketsIn bytes) ≡ 256
+  unfolding ticketsIn
+  tickets-long = length-tabulate 256 (λ place. ticketFrom (drop (ticketStart place) bytes))
+
+  pub lasts-long : length (lastsIn bytes) ≡ 32
+  unfolding lastsIn
+  lasts-long = length-tabulate 32 (λ program. numberAt (lastStart program) bytes)
+
+  pub entries-long : length (entriesIn bytes) ≡ 256
+  unfolding entriesIn
+  entries-long = length-tabulate 256 (λ place. entryFrom (drop (entryStart place) bytes))
+
+  pub ticket-here : (place : ℕ) → place < 256 → getD (ticketsIn bytes) place free ≡ ticketFrom (drop (ticketStart place) bytes)
+  unfolding ticketsIn
+  ticket-here place h = getD-tabulate 256 (λ p. ticketFrom (drop (ticketStart p) bytes)) place free h
+
+  -- its kind is that of the number in front
+  pub kind-here : (place : ℕ) → place < 256 → getD (ticketsIn bytes) place free .kind ≡ kindOf (numberAt (ticketStart place) bytes)
+  unfolding ticketFrom
+  kind-here place h = ap (λ (k : Ticket). k .kind) (ticket-here place h) ∙ ap kindOf (number-drop (ticketStart place) bytes)
+
+  pub last-here : (program : ℕ) → program < 32 → getD (lastsIn bytes) program 0 ≡ numberAt (lastStart program) bytes
+  unfolding lastsIn
+  last-here program h = getD-tabulate 32 (λ p. numberAt (lastStart p) bytes) program 0 h
+
+  pub entry-here : (place : ℕ) → place < 256 → getD (entriesIn bytes) place noEntry ≡ entryFrom (drop (entryStart place) bytes)
+  unfolding entriesIn
+  entry-here place h = getD-tabulate 256 (λ p. entryFrom (drop (entryStart p) bytes)) place noEntry h
+
+  -- the entries are those of the tables
+  pub entries-decoded : entriesIn bytes ≡ decode bytes .entries
+  unfolding entriesIn decode
+  entries-decoded = refl
+
+-- ---- a kind's number, where it is one of the five
+pub free-kind : (n : ℕ) → n ≡ 0 → isLive (kindOf n) ≡ false
+unfolding kindOf
+free-kind n e = rw e
+
+pub live-kind : (n : ℕ) → (n ≡ 0 → ⊥) → n ≤ 4 → isLive (kindOf n) ≡ true
+unfolding kindOf
+live-kind n ne h = go (case (eqb n 1)) (case (eqb n 2)) (case (eqb n 3)) (case (eqb n 4))
+  where
+    go : Case (eqb n 1) → Case (eqb n 2) → Case (eqb n 3) → Case (eqb n 4) → isLive (kindOf n) ≡ true
+    go (pass a) b c d = rw a
+    go (fail a) (pass b) c d = rw (a, b)
+    go (fail a) (fail b) (pass c) d = rw (a, b, c)
+    go (fail a) (fail b) (fail c) (pass d) = rw (a, b, c, d)
+    go (fail a) (fail b) (fail c) (fail d) = absurd (omega (arith, ne, h, eqb-false n 1 a, eqb-false n 2 b, eqb-false n 3 c, eqb-false n 4 d))

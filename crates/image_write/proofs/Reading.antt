@@ -1,0 +1,94 @@
+-- What is read of an image depends on its own bytes only, and no two places share a byte.
+use Prim.Native.Nat.{ℕ, _+_, _*_, _/_, _≤_, _<_}
+use native.Mathlib.Omega.{arith}
+use mathlib.Core.Path.{_≡_}
+use mathlib.Core.Logic.{_⊎_, inl, inr}
+use mathlib.Core.List.{List}
+use lib.Dec.{eqb, ltb}
+use lib.ListN.{getD}
+use borrow.Author.Tests.{ltb-true, ltb-false}
+use Rattle.lists.proofs.Tests.{Case, pass, fail, case}
+use Rattle.rights.specs.Rules.{rightsOf}
+use Rattle.tables.specs.Names.{nameOf}
+use Rattle.image.specs.Layout.{ticketSize, entrySize}
+use Rattle.image.specs.Numbers.{numberAt}
+use Rattle.image.specs.Image.{kindOf, ticketFrom, entryFrom, ticketStart, entryStart}
+use Rattle.image_read.specs.Places.{lastStart}
+use Rattle.image_write.proofs.Parts.{Outside}
+
+module _ (x y : List ℕ) where
+  -- the first n bytes are the same
+  abbrev pub SameFirst : ℕ → Type 0
+  SameFirst n = (j : ℕ) → j < n → getD x j 0 ≡ getD y j 0
+
+  module _ (n : ℕ) (same : SameFirst n) where
+    pub number-same : (at : ℕ) → at + 2 ≤ n → numberAt at x ≡ numberAt at y
+    number-same at h = λ i. same at (omega (arith, h)) i + 256 * same (at + 1) (omega (arith, h)) i
+
+  pub ticket-same : SameFirst ticketSize → ticketFrom x ≡ ticketFrom y
+  unfolding ticketFrom
+  ticket-same same =
+      let n = number-same ticketSize same in
+      λ i. record {
+        kind = kindOf (n 0 (omega arith) i);
+        number = n 2 (omega arith) i;
+        own = n 4 (omega arith) i;
+        other = nameOf (n 6 (omega arith) i) (n 8 (omega arith) i) (n 10 (omega arith) i);
+        first = n 12 (omega arith) i;
+        count = n 14 (omega arith) i;
+        rights = rightsOf (n 16 (omega arith) i);
+        dock = nameOf (n 18 (omega arith) i) (n entrySize (omega arith) i) (n 22 (omega arith) i);
+      }
+
+  pub entry-same : SameFirst entrySize → entryFrom x ≡ entryFrom y
+  unfolding entryFrom
+  entry-same same =
+      let n = number-same entrySize same in
+      λ i. record {
+        live = eqb (n 0 (omega arith) i) 1;
+        name = nameOf (n 2 (omega arith) i) (n 4 (omega arith) i) (n 6 (omega arith) i);
+        parent = nameOf (n 8 (omega arith) i) (n 10 (omega arith) i) (n 12 (omega arith) i);
+        first = n 14 (omega arith) i;
+        count = n 16 (omega arith) i;
+        rights = rightsOf (n 18 (omega arith) i);
+      }
+
+-- ---- places apart: a ticket's bytes, a last number's, an entry's
+pub tickets-apart : (p q : ℕ) → (p ≡ q → ⊥) → Outside (ticketStart q) ticketSize (ticketStart p) ticketSize
+tickets-apart p q ne = go (case (ltb p q))
+  where
+    go : Case (ltb p q) → Outside (ticketStart q) ticketSize (ticketStart p) ticketSize
+    go (pass e) = inl (omega (arith, ltb-true p q e))
+    go (fail e) = inr (omega (arith, ltb-false p q e, ne))
+
+pub lasts-apart : (p q : ℕ) → (p ≡ q → ⊥) → Outside (lastStart q) 2 (lastStart p) 2
+lasts-apart p q ne = go (case (ltb p q))
+  where
+    go : Case (ltb p q) → Outside (lastStart q) 2 (lastStart p) 2
+    go (pass e) = inl (omega (arith, ltb-true p q e))
+    go (fail e) = inr (omega (arith, ltb-false p q e, ne))
+
+pub entries-apart : (p q : ℕ) → (p ≡ q → ⊥) → Outside (entryStart q) entrySize (entryStart p) entrySize
+entries-apart p q ne = go (case (ltb p q))
+  where
+    go : Case (ltb p q) → Outside (entryStart q) entrySize (entryStart p) entrySize
+    go (pass e) = inl (omega (arith, ltb-true p q e))
+    go (fail e) = inr (omega (arith, ltb-false p q e, ne))
+
+-- the last number of program q and the ticket at place p
+ticket-last : (p q : ℕ) → (lastStart q + 2 ≤ ticketStart p) ⊎ (ticketStart p + ticketSize ≤ lastStart q)
+ticket-last p q = go (case (ltb q (p / 8)))
+  where
+    go : Case (ltb q (p / 8)) → (lastStart q + 2 ≤ ticketStart p) ⊎ (ticketStart p + ticketSize ≤ lastStart q)
+    go (pass e) = inl (omega (arith, ltb-true q (p / 8) e))
+    go (fail e) = inr (omega (arith, ltb-false q (p / 8) e))
+
+pub last-by-ticket : (p q : ℕ) → Outside (ticketStart p) ticketSize (lastStart q) 2
+last-by-ticket p q = ticket-last p q
+
+pub ticket-by-last : (p q : ℕ) → Outside (lastStart q) 2 (ticketStart p) ticketSize
+ticket-by-last p q = turn (ticket-last p q)
+  where
+    turn : (lastStart q + 2 ≤ ticketStart p) ⊎ (ticketStart p + ticketSize ≤ lastStart q) → Outside (lastStart q) 2 (ticketStart p) ticketSize
+    turn (inl h) = inr h
+    turn (inr h) = inl h

@@ -1,3 +1,0 @@
-pub mod Laying
-mod PlaceSteps
-pub mod Laws

@@ -1,0 +1,321 @@
+-- The lowest free run. A run that begins at a is free where each entry ends at or below a or begins past the run. So past the entries that
+-- begin below s, no free run begins below the furthest of their ends; and the run from there is free once it has been seen whole.
+use Prim.Native.Nat.{ℕ, zero, suc, _+_, _-_, _≤_, _<_}
+use native.Mathlib.Omega.{arith}
+use native.Mathlib.Numerals.{add-one}
+use mathlib.Core.Path.{_≡_, refl, sym, ap, _∙_, subst}
+use mathlib.Core.Logic.{_⊎_, inl, inr}
+use mathlib.Core.Bool.{Bool, true, false, not, _&&_, _||_, cond}
+use mathlib.Core.List.{List, [], _∷_}
+use lib.Dec.{leb, ltb, eqb}
+use lib.ListN.{length, getD, set, drop, replicate, length-set, length-replicate, drop-of-length-le, getD-replicate, List·getD-eq-default}
+use lib.Seq.{drop-cons, getD-set-same, getD-set-other}
+use borrow.Author.Count.{below-more}
+use borrow.Author.Tests.{lt-ltb, le-ltb, le-leb, lt-leb, ltb-true, ltb-false, eqb-true, eqb-false}
+use Rattle.lists.specs.Lists.{all, least}
+use Rattle.lists.proofs.Tests.{Case, pass, fail, case, contradiction, cannot-pass, and-r, and-intro, or-left, or-right, not-test}
+use Rattle.lists.proofs.Everywhere.{all-intro, all-elim}
+use Rattle.lists.proofs.Loops.{least-hit, least-miss, least-end}
+use Rattle.tables.specs.declared.Entry.{Entry}
+use Rattle.tables.specs.Names.{noEntry}
+use Rattle.tables.specs.Sheets.{apart, outside, isFreeRun, lowestRun}
+use Rattle.tables.proofs.ByPlace.{at}
+use Rattle.op_run.specs.Ends.{further, noteEnd, noteEnds}
+
+abbrev end : Entry → ℕ
+end e = e .first + e .count
+
+-- ---- the further of two
+module _ (a b : ℕ) where
+  pub further-second : a < b → b ≡ further a b
+  unfolding further
+  further-second h = rw (lt-ltb a b h)
+
+  pub further-first : b ≤ a → a ≡ further a b
+  unfolding further
+  further-first h = rw (le-ltb a b h)
+
+  further-left : a ≤ further a b
+  unfolding further
+  further-left = go (case (ltb a b))
+    where
+      go : Case (ltb a b) → a ≤ cond (ltb a b) b a
+      go (pass e) = let h : a < b = ltb-true a b e in rw e (omega arith)
+      go (fail e) = rw e (omega arith)
+
+  further-right : b ≤ further a b
+  unfolding further
+  further-right = go (case (ltb a b))
+    where
+      go : Case (ltb a b) → b ≤ cond (ltb a b) b a
+      go (pass e) = rw e (omega arith)
+      go (fail e) = rw e (ltb-false a b e)
+
+  further-from : (c : ℕ) → c < further a b → (c < a) ⊎ (c < b)
+  unfolding further
+  further-from c h = go (case (ltb a b))
+    where
+      go : Case (ltb a b) → (c < a) ⊎ (c < b)
+      go (pass e) = inr (rw e at h)
+      go (fail e) = inl (rw e at h)
+
+-- ---- one entry noted
+module _ (e : Entry) (l : List ℕ) where
+  pub noted : e .live ≡ true → e .first < 256 → noteEnd e l ≡ set l (e .first) (further (getD l (e .first) 0) (end e))
+  unfolding noteEnd
+  noted v b = rw (lt-ltb (e .first) 256 b, v)
+
+  pub noted-dead : e .live ≡ false → l ≡ noteEnd e l
+  unfolding noteEnd
+  noted-dead v = rw v
+
+  pub noted-high : e .live ≡ true → 256 ≤ e .first → l ≡ noteEnd e l
+  unfolding noteEnd
+  noted-high v b = rw (le-ltb (e .first) 256 b, v)
+
+  data Noted : Type 0 where
+    here : e .live ≡ true → e .first < 256 → noteEnd e l ≡ set l (e .first) (further (getD l (e .first) 0) (end e)) → Noted
+    not-here : noteEnd e l ≡ l → Noted
+
+  how : Noted
+  how = go (case (e .live)) (case (ltb (e .first) 256))
+    where
+      go : Case (e .live) → Case (ltb (e .first) 256) → Noted
+      go (fail v) _ = not-here (sym (noted-dead v))
+      go (pass v) (fail b) = not-here (sym (noted-high v (ltb-false (e .first) 256 b)))
+      go (pass v) (pass b) = let h : e .first < 256 = ltb-true (e .first) 256 b in here v h (noted v h)
+
+  one-long : length (noteEnd e l) ≡ length l
+  one-long = go how
+    where
+      go : Noted → length (noteEnd e l) ≡ length l
+      go (here v b q) = ap length q ∙ length-set l (e .first) (further (getD l (e .first) 0) (end e))
+      go (not-here q) = ap length q
+
+  module _ (long : length l ≡ 256) where
+    one-here : e .live ≡ true → e .first < 256 → getD (noteEnd e l) (e .first) 0 ≡ further (getD l (e .first) 0) (end e)
+    one-here v b =
+        ap (λ (m : List ℕ). getD m (e .first) 0) (noted v b)
+        ∙ getD-set-same l (e .first) (further (getD l (e .first) 0) (end e)) 0 (omega arith)
+
+    one-upper : e .live ≡ true → e .first < 256 → end e ≤ getD (noteEnd e l) (e .first) 0
+    one-upper v b = rw (one-here v b) (further-right (getD l (e .first) 0) (end e))
+
+    -- what stands at k is what stood there, or the entry's end
+    data Stands (k : ℕ) : Type 0 where
+      old : getD (noteEnd e l) k 0 ≡ getD l k 0 → Stands k
+      new : e .live ≡ true → e .first ≡ k → getD (noteEnd e l) k 0 ≡ further (getD l k 0) (end e) → Stands k
+
+    stands : (k : ℕ) → Stands k
+    stands k = go how (case (eqb k (e .first)))
+      where
+        go : Noted → Case (eqb k (e .first)) → Stands k
+        go (not-here q) _ = old (ap (λ (m : List ℕ). getD m k 0) q)
+        go (here v b q) (fail ne) =
+            old
+            (ap (λ (m : List ℕ). getD m k 0) q
+            ∙ getD-set-other l (e .first) k (further (getD l (e .first) 0) (end e)) 0 (eqb-false k (e .first) ne))
+        go (here v b q) (pass z) =
+            let w : e .first ≡ k = sym (eqb-true k (e .first) z) in
+            new v w (subst (λ (j : ℕ). getD (noteEnd e l) j 0 ≡ further (getD l j 0) (end e)) w (one-here v b))
+
+    one-keeps : (k : ℕ) → getD l k 0 ≤ getD (noteEnd e l) k 0
+    one-keeps k = go (stands k)
+      where
+        go : Stands k → getD l k 0 ≤ getD (noteEnd e l) k 0
+        go (old q) = omega (arith, q)
+        go (new v w q) = rw q (further-left (getD l k 0) (end e))
+
+    one-from : (k a : ℕ) → a < getD (noteEnd e l) k 0 → (a < getD l k 0) ⊎ ((e .live ≡ true) × (e .first ≡ k) × (a < end e))
+    one-from k a h = go (stands k)
+      where
+        go : Stands k → (a < getD l k 0) ⊎ ((e .live ≡ true) × (e .first ≡ k) × (a < end e))
+        go (old q) = inl (rw q at h)
+        go (new v w q) = pick (further-from (getD l k 0) (end e) a (rw q at h))
+          where
+            pick : (a < getD l k 0) ⊎ (a < end e) → (a < getD l k 0) ⊎ ((e .live ≡ true) × (e .first ≡ k) × (a < end e))
+            pick (inl c) = inl c
+            pick (inr c) = inr (v, w, c)
+
+-- ---- all entries noted
+-- an entry that begins at k and ends past a
+record Ending (es : List Entry) (k a : ℕ) : Type 0 where
+  place : ℕ
+  low : place < length es
+  live : at es place .live ≡ true
+  first : at es place .first ≡ k
+  past : a < end (at es place)
+
+all-keep : (es : List Entry) (l : List ℕ) → length l ≡ 256 → (k : ℕ) → getD l k 0 ≤ getD (noteEnds es l) k 0
+unfolding noteEnds
+all-keep [] l n k = omega arith
+all-keep (e ∷ es) l n k = omega (arith, one-keeps e l n k, all-keep es (noteEnd e l) (one-long e l ∙ n) k)
+
+all-upper : (es : List Entry) (l : List ℕ) → length l ≡ 256 → (j : ℕ) → j < length es → at es j .live ≡ true → at es j .first < 256
+    → end (at es j) ≤ getD (noteEnds es l) (at es j .first) 0
+unfolding noteEnds
+all-upper [] l n j b v h = absurd (omega arith)
+all-upper (e ∷ es) l n zero b v h = omega (arith, one-upper e l n v h, all-keep es (noteEnd e l) (one-long e l ∙ n) (e .first))
+all-upper (e ∷ es) l n (suc j) b v h = all-upper es (noteEnd e l) (one-long e l ∙ n) j (omega arith) v h
+
+all-from : (es : List Entry) (l : List ℕ) → length l ≡ 256 → (k a : ℕ) → a < getD (noteEnds es l) k 0 → (a < getD l k 0) ⊎ Ending es k a
+unfolding noteEnds
+all-from [] l n k a h = inl h
+all-from (e ∷ es) l n k a h = go (all-from es (noteEnd e l) (one-long e l ∙ n) k a h)
+  where
+    go : (a < getD (noteEnd e l) k 0) ⊎ Ending es k a → (a < getD l k 0) ⊎ Ending (e ∷ es) k a
+    go (inr w) = inr (record { place = suc (w .place); low = omega (arith, w .low); live = w .live; first = w .first; past = w .past })
+    go (inl h) = pick (one-from e l n k a h)
+      where
+        pick : (a < getD l k 0) ⊎ ((e .live ≡ true) × (e .first ≡ k) × (a < end e)) → (a < getD l k 0) ⊎ Ending (e ∷ es) k a
+        pick (inl c) = inl c
+        pick (inr c) = inr (record { place = 0; low = omega arith; live = c .0; first = c .1; past = c .2 })
+
+-- the loop that notes them: from place i on, what is left to note
+module _ (es : List Entry) (i : ℕ) (now : List ℕ) {all-noted : List ℕ} (so-far : noteEnds (drop i es) now ≡ all-noted) where
+  noting-from : i < length es → noteEnds (drop i es) now ≡ noteEnds (drop (i + 1) es) (noteEnd (at es i) now)
+  unfolding noteEnds
+  noting-from b = rw (add-one, drop-cons es i noEntry)
+
+  pub noting-more : i < length es → {after : List ℕ} → after ≡ noteEnd (at es i) now → noteEnds (drop (i + 1) es) after ≡ all-noted
+  noting-more b q = ap (noteEnds (drop (i + 1) es)) q ∙ sym (noting-from b) ∙ so-far
+
+  pub noting-end : length es ≤ i → now ≡ all-noted
+  unfolding noteEnds
+  noting-end b = ap (λ (m : List Entry). noteEnds m now) (sym (drop-of-length-le es b)) ∙ so-far
+
+-- ---- an entry and a run of count sheets from a on
+module _ (count a : ℕ) (e : Entry) where
+  -- it begins before the run's end and ends past the run's beginning
+  met : e .live ≡ true → e .first < a + count → a < end e → outside a count e ≡ false
+  unfolding outside apart
+  met v p q = rw (lt-leb (a + count) (e .first) p, lt-leb (end e) a q, v)
+
+  clear-of : (e .live ≡ true → (a + count ≤ e .first) ⊎ (end e ≤ a)) → outside a count e ≡ true
+  unfolding outside apart
+  clear-of f = go (case (e .live))
+    where
+      pick : (a + count ≤ e .first) ⊎ (end e ≤ a) → (leb (a + count) (e .first) || leb (end e) a) ≡ true
+      pick (inl p) = or-left (leb (end e) a) (le-leb (a + count) (e .first) p)
+      pick (inr p) = or-right (leb (a + count) (e .first)) (le-leb (end e) a p)
+
+      go : Case (e .live) → (not (e .live) || (leb (a + count) (e .first) || leb (end e) a)) ≡ true
+      go (fail v) = or-left (leb (a + count) (e .first) || leb (end e) a) (not-test (e .live) v)
+      go (pass v) = or-right (not (e .live)) (pick (f v))
+
+-- ---- all entries and the run
+module _ (es : List Entry) (count a : ℕ) where
+  run-met : (j : ℕ) → j < length es → at es j .live ≡ true → at es j .first < a + count → a < end (at es j) → isFreeRun es count a ≡ false
+  unfolding isFreeRun
+  run-met j b v p q =
+      cannot-pass (leb (a + count) 256 && all (outside a count) es)
+      (λ h. contradiction (all-elim noEntry (outside a count) es (and-r (leb (a + count) 256) _ h) j b) (met count a (at es j) v p q))
+
+  run-free : a + count ≤ 256 → ((j : ℕ) → j < length es → at es j .live ≡ true → (a + count ≤ at es j .first) ⊎ (end (at es j) ≤ a)) → isFreeRun es count a ≡ true
+  unfolding isFreeRun
+  run-free b clear = and-intro (le-leb (a + count) 256 b) (all-intro noEntry (outside a count) es (λ j c. clear-of count a (at es j) (clear j c)))
+
+  run-high : 256 < a + count → isFreeRun es count a ≡ false
+  unfolding isFreeRun
+  run-high h = rw (lt-leb (a + count) 256 h)
+
+-- ---- the least number that passes, where all below a fail
+least-past : (f : ℕ → Bool) (n a : ℕ) → a ≤ n → ((i : ℕ) → i < a → f i ≡ false) → least f n 0 ≡ least f (n - a) a
+least-past f n zero b none = ap (λ (k : ℕ). least f k 0) (whole n)
+  where
+    whole : (n : ℕ) → n ≡ n - 0
+    whole n = omega arith
+least-past f n (suc a) b none =
+    least-past f n a (omega arith) (λ i c. none i (omega arith)) ∙ least-miss f n a (omega arith) (none a (omega arith)) _ refl
+    ∙ ap (λ (k : ℕ). least f (n - k) k) (add-one a)
+
+module _ (es : List Entry) (count a : ℕ) (none : (i : ℕ) → i < a → isFreeRun es count i ≡ false) where
+  lowest-here : a < 256 → isFreeRun es count a ≡ true → a ≡ lowestRun es count
+  unfolding lowestRun
+  lowest-here b h = least-hit (isFreeRun es count) 256 a b h _ (least-past (isFreeRun es count) 256 a (omega arith) none)
+
+  lowest-nowhere : a ≡ 256 → a ≡ lowestRun es count
+  unfolding lowestRun
+  lowest-nowhere b = least-end (isFreeRun es count) 256 a (omega arith) _ (least-past (isFreeRun es count) 256 a (omega arith) none)
+
+-- ---- where the search stands: the sheets below s have been seen, and no free run begins below start
+abbrev pub noEnds : List ℕ
+noEnds = replicate 256 0
+
+pub record Sought (count : ℕ) (ends : List ℕ) (start s : ℕ) : Type 0 where
+  pub within : s ≤ 256
+  pub short : s < start + count
+  pub past : (k : ℕ) → k < s → getD ends k 0 ≤ start
+  pub none : (es : List Entry) → ends ≡ noteEnds es noEnds → (a : ℕ) → a < start → isFreeRun es count a ≡ false
+
+no-ends-long : length noEnds ≡ 256
+no-ends-long = length-replicate {A = ℕ} 256 0
+
+no-ends : (k : ℕ) → getD noEnds k 0 ≡ 0
+no-ends k = go (case (ltb k 256))
+  where
+    go : Case (ltb k 256) → getD noEnds k 0 ≡ 0
+    go (pass b) = getD-replicate {A = ℕ} 256 k 0 0 (ltb-true k 256 b)
+    go (fail b) =
+        let h : 256 ≤ k = ltb-false k 256 b in
+        let m : length noEnds ≤ k = omega (arith, no-ends-long) in
+        List·getD-eq-default noEnds 0 m
+
+module _ {count : ℕ} {ends : List ℕ} where
+  pub sought-none : 1 ≤ count → Sought count ends 0 0
+  sought-none c = record { within = omega arith; short = omega arith; past = λ k b. absurd (omega arith); none = λ es q a b. absurd (omega arith) }
+
+  -- next: the start with the ends at the sheet s seen too
+  module _ {start s : ℕ} (so-far : Sought count ends start s) (b : s < 256) {next : ℕ} (is : next ≡ further start (getD ends s 0)) where
+    next-left : start ≤ next
+    next-left = rw is (further-left start (getD ends s 0))
+
+    next-past : (k : ℕ) → k < s + 1 → getD ends k 0 ≤ next
+    next-past = below-more _ s (λ k c. omega (arith, so-far .past k c, next-left)) (rw is (further-right start (getD ends s 0)))
+
+    -- a run that begins from start on, below an end noted at s, meets that entry
+    next-none : (es : List Entry) → ends ≡ noteEnds es noEnds → (a : ℕ) → a < next → isFreeRun es count a ≡ false
+    next-none es q a c = go (case (ltb a start)) (further-from start (getD ends s 0) a (rw is at c))
+      where
+        hit : Case (ltb a start) → (a < getD noEnds s 0) ⊎ Ending es s a → isFreeRun es count a ≡ false
+        hit (pass p) _ = so-far .none es q a (ltb-true a start p)
+        hit (fail p) (inl h) = absurd (omega (arith, no-ends s, h))
+        hit (fail p) (inr w) =
+            let z : start ≤ a = ltb-false a start p in
+            run-met es count a (w .place) (w .low) (w .live) (omega (arith, w .first, so-far .short)) (w .past)
+
+        go : Case (ltb a start) → (a < start) ⊎ (a < getD ends s 0) → isFreeRun es count a ≡ false
+        go _ (inl h) = so-far .none es q a h
+        go p (inr h) = hit p (all-from es noEnds no-ends-long s a (subst (λ (l : List ℕ). a < getD l s 0) q h))
+
+    pub sought-more : (s + 1 ≡ next + count → ⊥) → Sought count ends next (s + 1)
+    sought-more ne = record {
+      within = omega arith;
+      short = omega (arith, so-far .short, next-left, ne);
+      past = next-past;
+      none = next-none;
+    }
+
+    pub sought-found : 1 ≤ count → (es : List Entry) → ends ≡ noteEnds es noEnds → s + 1 ≡ next + count → next ≡ lowestRun es count
+    sought-found c es q e = lowest-here es count next (next-none es q) (omega arith) (run-free es count next (omega arith) clear)
+      where
+        clear : (j : ℕ) → j < length es → at es j .live ≡ true → (next + count ≤ at es j .first) ⊎ (end (at es j) ≤ next)
+        clear j d v = go (case (ltb (at es j .first) (s + 1)))
+          where
+            go : Case (ltb (at es j .first) (s + 1)) → (next + count ≤ at es j .first) ⊎ (end (at es j) ≤ next)
+            go (fail p) = let z : s + 1 ≤ at es j .first = ltb-false (at es j .first) (s + 1) p in inl (omega arith)
+            go (pass p) =
+                let z : at es j .first < s + 1 = ltb-true (at es j .first) (s + 1) p in
+                let u : end (at es j) ≤ getD ends (at es j .first) 0
+                = subst (λ (l : List ℕ). end (at es j) ≤ getD l (at es j .first) 0) (sym q) (all-upper es noEnds no-ends-long j d v (omega arith)) in
+                inr (omega (arith, u, next-past (at es j .first) z))
+
+  pub sought-end : {start s : ℕ} → Sought count ends start s → 256 ≤ s → (es : List Entry) → ends ≡ noteEnds es noEnds → s ≡ lowestRun es count
+  sought-end {start} {s} so-far b es q = lowest-nowhere es count s none (omega (arith, so-far .within))
+    where
+      none : (a : ℕ) → a < s → isFreeRun es count a ≡ false
+      none a c = go (case (ltb a start))
+        where
+          go : Case (ltb a start) → isFreeRun es count a ≡ false
+          go (pass p) = so-far .none es q a (ltb-true a start p)
+          go (fail p) = let z : start ≤ a = ltb-false a start p in run-high es count a (omega (arith, so-far .short))

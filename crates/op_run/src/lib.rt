@@ -1,0 +1,67 @@
+// The lowest run of sheets that no entry of the image has.
+ghost use mathlib.Core.Path.{_≡_};
+ghost use Prim.Native.Nat.{_≤_};
+ghost use lib.ListN.{length};
+ghost use Rattle.tables.specs.Sheets.{lowestRun};
+ghost use Rattle.image.specs.Layout.{imageSize};
+ghost use Rattle.image_read.specs.Places.{entriesIn};
+ghost use Rattle.op_run.specs.Ends.{further, noteEnd, noteEnds};
+use tables::Entry;
+
+fn furthest(a: u32, b: u32) -> u32
+    ensures { λ r. ⌜ r ≡ further a b ⌝ }
+{
+    if a < b {
+        return b;
+    }
+    a
+}
+
+// Where the entry ends is kept at the sheet where it begins, unless another that begins there ends further.
+fn note_end(ends: &mut [u32; 256], e: Entry)
+    ensures { λ r. ⌜ now (ends .exit) ≡ noteEnd e (now (ends .entry)) ⌝ }
+{
+    if !e.live {
+        return;
+    }
+    let first = e.first as usize;
+    if 256 <= first {
+        return;
+    }
+    let end = e.first as u32 + e.count as u32;
+    let old = ends[first];
+    ends[first] = furthest(old, end);
+}
+
+fn note_ends(ends: &mut [u32; 256], image: &[u8])
+    requires { ⌜ length (now image) ≡ imageSize ⌝ }
+    ensures { λ r. ⌜ now (ends .exit) ≡ noteEnds (entriesIn (now (image .entry))) (now (ends .entry)) ⌝ }
+{
+    let mut i: usize = 0;
+    while i < 256 {
+        let e = image_read::entry_at(image, i);
+        i = i + 1;
+        note_end(ends, e);
+    }
+}
+
+// The first sheet of the lowest run of `count` sheets outside all entries, or 256. One pass over the entries, one over the sheets: `start`
+// is where the furthest of the entries that begin below s ends, and no free run begins below it.
+pub fn lowest_run(image: &[u8], count: usize) -> usize
+    requires { ⌜ (length (now image) ≡ imageSize) × (1 ≤ count) × (count ≤ 256) ⌝ }
+    ensures { λ r. ⌜ r ≡ lowestRun (entriesIn (now (image .entry))) count ⌝ }
+{
+    let mut ends = [0u32; 256];
+    note_ends(&mut ends, image);
+    let mut start: u32 = 0;
+    let mut s: usize = 0;
+    while s < 256 {
+        let end = ends[s];
+        s = s + 1;
+        start = furthest(start, end);
+        if s == start as usize + count {
+            return start as usize;
+        }
+    }
+    s
+}

@@ -1,0 +1,144 @@
+// T6: the recalls, over an image by place. One pass finds each recall's target and keeps its key, one tests each recall by
+// itself, and the keys tell whether a target has two recalls and whether every child has one.
+ghost use Prim.Native.Nat.{_+_, _*_, _<_};
+ghost use mathlib.Core.Path.{_≡_};
+ghost use mathlib.Core.Bool.{_&&_};
+ghost use mathlib.Core.List.{map};
+ghost use lib.ListN.{length, getD};
+ghost use Rattle.lists.specs.Tests.{between};
+ghost use Rattle.tables.specs.declared.Tables.{Tables};
+ghost use Rattle.tables.specs.Kinds.{isChild, isRecall};
+ghost use Rattle.tables.specs.Names.{isProgram};
+ghost use Rattle.tables.specs.Chains.{ownName};
+ghost use Rattle.tables.specs.Order.{everyTicket, t6};
+ghost use Rattle.image.specs.Layout.{imageSize};
+ghost use Rattle.image_places.specs.Places.{nameAt};
+ghost use Rattle.image_read.specs.Places.{ticketsIn, lastsIn};
+ghost use Rattle.order_lists.specs.Listing.{TicketsListed};
+ghost use Rattle.order_recall_marks.specs.Keys.{targetKey};
+ghost use Rattle.order_recalls.specs.Recalls.{LaidOut, recallHolds};
+use tables::Name;
+use tables::Ticket;
+
+// The name of the grant that the recall at a place stands under.
+fn own_name(place: usize, k: Ticket) -> Name
+    requires { ⌜ place < 256 ⌝ }
+    ensures { λ r. ⌜ r ≡ ownName (nameAt place k) k ⌝ }
+{
+    Name {
+        pad: (place / 64) as u16,
+        program: (place / 8 % 8) as u16,
+        number: k.own,
+    }
+}
+
+// A name whose number its program was given: between 1 and the last.
+fn was_given(image: &[u8], n: Name) -> bool
+    requires { ⌜ length (now image) ≡ imageSize ⌝ }
+    ensures { λ r. ⌜ r ≡ (isProgram (n .pad) (n .program) && between 1 (getD (lastsIn (now (image .entry))) (8 * n .pad + n .program) 0) (n .number)) ⌝ }
+{
+    if 3 < n.pad {
+        return false;
+    }
+    if 7 < n.program {
+        return false;
+    }
+    let last = image_read::last_at(
+        image,
+        8 * image_places::wide(n.pad) + image_places::wide(n.program),
+    );
+    order_rules::is_between(1, last, n.number)
+}
+
+// The place of the entry of a target, by its key; 256 where there is none.
+fn note_of(notes: &[u16], key: usize) -> usize
+    requires { ⌜ length (now notes) ≡ 256 ⌝ }
+    ensures { λ r. ⌜ r ≡ getD (now (notes .entry)) key 256 ⌝ }
+{
+    if 256 <= key {
+        return 256;
+    }
+    image_places::wide(notes[key])
+}
+
+// Each recall by itself: its parent is a grant with the pass on right, and its target a child of that grant, or a name on another pad whose
+// entry, if there is one, lies within the grant.
+fn each_holds(
+    image: &[u8],
+    numbers: &[u16],
+    notes: &[u16],
+    recalls: &[u16],
+    keys: &[usize; 256],
+) -> bool
+    requires { ⌜ (length (now image) ≡ imageSize) × ((length (now numbers) ≡ 256) × ((length (now notes) ≡ 256) × (TicketsListed (λ k. isRecall (k .kind)) (ticketsIn (now image)) (now recalls) × (now keys ≡ map (targetKey (now numbers)) (ticketsIn (now image)))))) ⌝ }
+    ensures { λ r. ⌜ ((t : Tables) → LaidOut t (now (image .entry)) (now (numbers .entry)) (now (notes .entry)) → r ≡ everyTicket isRecall (recallHolds t) t) ⌝ }
+{
+    let mut i: usize = 0;
+    while i < recalls.len() {
+        let at = image_places::wide(recalls[i]);
+        i = i + 1;
+        let key = keys[at];
+        let k = image_read::ticket_at(image, at);
+        let own = own_name(at, k);
+        let target = k.other;
+        let place = image_places::place_of(numbers, own);
+        if 256 <= place {
+            return false;
+        }
+        let grant = image_read::ticket_at(image, place);
+        if !order_rules::recall_parent_ok(grant) {
+            return false;
+        }
+        if target.pad == own.pad {
+            if 256 < key {
+                return false;
+            }
+            let child = image_read::ticket_at(image, key);
+            if !order_rules::is_child_of(own, child) {
+                return false;
+            }
+        } else {
+            if !was_given(image, target) {
+                return false;
+            }
+            let note = note_of(notes, key);
+            if note < 256 {
+                let e = image_read::entry_at(image, note);
+                if !order_rules::far_entry_ok(grant, e) {
+                    return false;
+                }
+            }
+        }
+    }
+    true
+}
+
+// T6, in tables whose numbers are distinct (T1) and whose entries are noted at their grants' places. Where there is no recall, there must be
+// no child either.
+pub fn recalls_ok(
+    image: &[u8],
+    numbers: &[u16],
+    notes: &[u16],
+    children: &[u16],
+    recalls: &[u16],
+) -> bool
+    requires { ⌜ (length (now image) ≡ imageSize) × ((length (now numbers) ≡ 256) × ((length (now notes) ≡ 256) × (TicketsListed (λ k. isChild (k .kind)) (ticketsIn (now image)) (now children) × TicketsListed (λ k. isRecall (k .kind)) (ticketsIn (now image)) (now recalls)))) ⌝ }
+    ensures { λ r. ⌜ ((t : Tables) → LaidOut t (now (image .entry)) (now (numbers .entry)) (now (notes .entry)) → r ≡ t6 t) ⌝ }
+{
+    if recalls.len() == 0 {
+        return children.len() == 0;
+    }
+    let mut keys: [usize; 256] = [256; 256];
+    order_recall_marks::write_keys(image, numbers, recalls, &mut keys);
+    if !each_holds(image, numbers, notes, recalls, &keys) {
+        return false;
+    }
+    let mut marks: [u8; 256] = [0; 256];
+    if !order_recall_marks::mark_places(&keys, recalls, &mut marks) {
+        return false;
+    }
+    if !order_recall_marks::dead_once(&keys, recalls) {
+        return false;
+    }
+    order_recall_marks::children_marked(children, &marks)
+}
