@@ -20,8 +20,8 @@ use Rattle.tables.specs.Names.{nameOf, free, noEntry, noProgram, noPad}
 use Rattle.tables.specs.Lookup.{padAt, Sized}
 use Rattle.image.specs.Layout.{ticketSize, programLast, programSize, padSize, entrySize, entriesStart, entriesSize, imageSize}
 use Rattle.image.specs.Numbers.{bytesOf, numberAt}
-use Rattle.image.specs.Image.{kindNumber, kindOf, ticketNumbers, ticketBytes, ticketFrom, programBytes, programFrom, padBytes, padFrom}
-use Rattle.image.specs.Image.{entryNumbers, entryBytes, entryFrom, encode, decode, ticketStart, entryStart, kindsOk, livesOk, isImage}
+use Rattle.image.specs.Image.{kindNumber, kindOf, ticketNumbers, ticketBytes, readTicket, programBytes, readProgram, padBytes, readPad}
+use Rattle.image.specs.Image.{entryNumbers, entryBytes, readEntry, encode, decode, ticketStart, entryStart, kindsOk, livesOk, isImage}
 use Rattle.image.proofs.NumberLaws.{number-back, number-begins, number-drop, Bytes, bytes-drop, numbers-cut}
 use Rattle.image.proofs.Lengths.{ticket-long, tickets-long, program-long, pad-long, pads-long, entry-long, image-long}
 
@@ -42,10 +42,10 @@ name-back : (n : Name)
     → nameOf (n .pad % 256 + 256 * (n .pad / 256)) (n .program % 256 + 256 * (n .program / 256)) (n .number % 256 + 256 * (n .number / 256)) ≡ n
 name-back n = λ i. nameOf (number-back (n .pad) i) (number-back (n .program) i) (number-back (n .number) i)
 
-pub ticket-back : (k : Ticket) (bytes : List ℕ) → Begins (ticketBytes k) bytes → ticketFrom bytes ≡ k
-unfolding ticketBytes ticketNumbers bytesOf ticketFrom
+pub ticket-back : (k : Ticket) (bytes : List ℕ) → Begins (ticketBytes k) bytes → readTicket bytes ≡ k
+unfolding ticketBytes ticketNumbers bytesOf readTicket
 ticket-back k bytes it =
-    ap ticketFrom (it .same)
+    ap readTicket (it .same)
     ∙ (λ i. record {
       kind = kind-back (k .kind) i;
       number = number-back (k .number) i;
@@ -57,10 +57,10 @@ ticket-back k bytes it =
       dock = name-back (k .dock) i;
     })
 
-pub entry-back : (e : Entry) (bytes : List ℕ) → Begins (entryBytes e) bytes → entryFrom bytes ≡ e
-unfolding entryBytes entryNumbers bytesOf entryFrom
+pub entry-back : (e : Entry) (bytes : List ℕ) → Begins (entryBytes e) bytes → readEntry bytes ≡ e
+unfolding entryBytes entryNumbers bytesOf readEntry
 entry-back e bytes it =
-    ap entryFrom (it .same)
+    ap readEntry (it .same)
     ∙ (λ i. record {
       live = live-back (e .live) i;
       name = name-back (e .name) i;
@@ -81,10 +81,10 @@ module _ (p : Program) (bytes : List ℕ) (it : Begins (programBytes p) bytes) w
   ticket-begins : (i : ℕ) → i < 8 → Begins (ticketPart p i) (drop (ticketSize * i) bytes)
   ticket-begins = part-begins ticketSize 8 ticketBytes free ticket-long (p .tickets) bytes tickets-begin
 
-  program-back : length (p .tickets) ≡ 8 → programFrom bytes ≡ p
-  unfolding programBytes programFrom
+  program-back : length (p .tickets) ≡ 8 → readProgram bytes ≡ p
+  unfolding programBytes readProgram
   program-back long =
-      let tickets = parts-back ticketSize 8 ticketBytes free ticketFrom ticket-long (p .tickets) bytes tickets-begin long (λ i h. ticket-back _ _) in
+      let tickets = parts-back ticketSize 8 ticketBytes free readTicket ticket-long (p .tickets) bytes tickets-begin long (λ i h. ticket-back _ _) in
       let behind = begins-behind (joined 8 (ticketPart p)) (bytesOf (p .last ∷ [])) bytes it programLast (tickets-long p) in
       let last = sym (number-drop programLast bytes) ∙ number-begins (p .last) [] (drop programLast bytes) behind in
       λ i. record { tickets = tickets i; last = last i }
@@ -94,11 +94,11 @@ module _ (p : Pad) (bytes : List ℕ) (it : Begins (padBytes p) bytes) where
   unfolding padBytes
   program-begins = part-begins programSize 8 programBytes noProgram program-long (p .programs) bytes it
 
-  pad-back : length (p .programs) ≡ 8 → ((i : ℕ) → i < 8 → length (getD (p .programs) i noProgram .tickets) ≡ 8) → padFrom bytes ≡ p
-  unfolding padBytes padFrom
+  pad-back : length (p .programs) ≡ 8 → ((i : ℕ) → i < 8 → length (getD (p .programs) i noProgram .tickets) ≡ 8) → readPad bytes ≡ p
+  unfolding padBytes readPad
   pad-back long each =
       let programs =
-      parts-back programSize 8 programBytes noProgram programFrom program-long (p .programs) bytes it long (λ i h b. program-back _ _ b (each i h)) in
+      parts-back programSize 8 programBytes noProgram readProgram program-long (p .programs) bytes it long (λ i h b. program-back _ _ b (each i h)) in
       λ i. record { programs = programs i }
 
 module _ (t : Tables) where
@@ -117,19 +117,19 @@ module _ (t : Tables) where
   entries-begin = begins-behind (joined 4 padPart) (joined 256 entryPart) (encode t) (begins-all (encode t)) entriesStart (pads-long t)
 
 -- the entries stand behind the pads
-entries-in : (bytes : List ℕ) → decode bytes .entries ≡ tabulate 256 (λ i. entryFrom (drop (entrySize * i) (drop entriesStart bytes)))
+entries-in : (bytes : List ℕ) → decode bytes .entries ≡ tabulate 256 (λ i. readEntry (drop (entrySize * i) (drop entriesStart bytes)))
 unfolding decode
-entries-in bytes = λ j. tabulate 256 (λ i. entryFrom (sym (drop-drop (entrySize * i) entriesStart bytes) j))
+entries-in bytes = λ j. tabulate 256 (λ i. readEntry (sym (drop-drop (entrySize * i) entriesStart bytes) j))
 
 pub decode-encode : (t : Tables) → Sized t → decode (encode t) ≡ t
 unfolding decode
 decode-encode t s =
     let pads =
-    parts-back padSize 4 padBytes noPad padFrom pad-long (t .pads) (encode t) (pads-begin t) (s .pads)
+    parts-back padSize 4 padBytes noPad readPad pad-long (t .pads) (encode t) (pads-begin t) (s .pads)
     (λ i h b. pad-back _ _ b (s .programs i h) (λ j low. s .tickets i j h low)) in
     let entries =
     entries-in (encode t)
-    ∙ parts-back entrySize 256 entryBytes noEntry entryFrom entry-long (t .entries) (drop entriesStart (encode t)) (entries-begin t) (s .entries)
+    ∙ parts-back entrySize 256 entryBytes noEntry readEntry entry-long (t .entries) (drop entriesStart (encode t)) (entries-begin t) (s .entries)
     (λ i h. entry-back _ _) in
     λ i. record { pads = pads i; entries = entries i }
 
@@ -199,27 +199,27 @@ kind-again n h = eqb-true _ n (below-at 5 (λ m. eqb (kindNumber (kindOf m)) m) 
 live-again : (n : ℕ) → n ≤ 1 → cond (eqb n 1) 1 0 ≡ n
 live-again n h = eqb-true _ n (below-at 2 (λ m. eqb (cond (eqb m 1) 1 0) m) refl n (omega arith))
 
-ticket-again : (bytes : List ℕ) → Bytes ticketSize bytes → numberAt 0 bytes ≤ 4 → ticketBytes (ticketFrom bytes) ≡ take ticketSize bytes
-unfolding ticketBytes ticketNumbers ticketFrom bytesOf tabulate
+ticket-again : (bytes : List ℕ) → Bytes ticketSize bytes → numberAt 0 bytes ≤ 4 → ticketBytes (readTicket bytes) ≡ take ticketSize bytes
+unfolding ticketBytes ticketNumbers readTicket bytesOf tabulate
 ticket-again bytes b low = rw (kind-again _ low) (numbers-cut 12 bytes b)
 
-entry-again : (bytes : List ℕ) → Bytes entrySize bytes → numberAt 0 bytes ≤ 1 → entryBytes (entryFrom bytes) ≡ take entrySize bytes
-unfolding entryBytes entryNumbers entryFrom bytesOf tabulate
+entry-again : (bytes : List ℕ) → Bytes entrySize bytes → numberAt 0 bytes ≤ 1 → entryBytes (readEntry bytes) ≡ take entrySize bytes
+unfolding entryBytes entryNumbers readEntry bytesOf tabulate
 entry-again bytes b low = rw (live-again _ low) (numbers-cut 10 bytes b)
 
 program-again : (bytes : List ℕ) → Bytes programSize bytes → ((i : ℕ) → i < 8 → numberAt 0 (drop (ticketSize * i) bytes) ≤ 4)
-    → programBytes (programFrom bytes) ≡ take programSize bytes
-unfolding programBytes programFrom bytesOf tabulate
+    → programBytes (readProgram bytes) ≡ take programSize bytes
+unfolding programBytes readProgram bytesOf tabulate
 program-again bytes b low =
-    let tickets = parts-cut ticketSize 8 ticketBytes free ticketFrom bytes (λ i h. ticket-again _ (bytes-drop (ticketSize * i) ticketSize (omega arith) b) (low i h)) in
+    let tickets = parts-cut ticketSize 8 ticketBytes free readTicket bytes (λ i h. ticket-again _ (bytes-drop (ticketSize * i) ticketSize (omega arith) b) (low i h)) in
     let last = ap (λ (n : ℕ). bytesOf (n ∷ [])) (sym (number-drop programLast bytes)) ∙ numbers-cut 1 (drop programLast bytes) (bytes-drop programLast 2 (omega arith) b) in
     (λ i. tickets i ++ last i) ∙ sym (take-add programLast 2 bytes)
 
 pad-again : (bytes : List ℕ) → Bytes padSize bytes → ((b i : ℕ) → b < 8 → i < 8 → numberAt 0 (drop (ticketSize * i) (drop (programSize * b) bytes)) ≤ 4)
-    → padBytes (padFrom bytes) ≡ take padSize bytes
-unfolding padBytes padFrom
+    → padBytes (readPad bytes) ≡ take padSize bytes
+unfolding padBytes readPad
 pad-again bytes b low =
-    parts-cut programSize 8 programBytes noProgram programFrom bytes
+    parts-cut programSize 8 programBytes noProgram readProgram bytes
     (λ i h. program-again _ (bytes-drop (programSize * i) programSize (omega arith) b) (λ j. low i j h))
 
 -- ---- the tests of an image
@@ -256,10 +256,10 @@ unfolding encode decode
 encode-decode bytes small e =
     let whole : Bytes imageSize bytes = record { long = omega (arith, image-whole bytes e); small = small } in
     let pads =
-    parts-cut padSize 4 padBytes noPad padFrom bytes
+    parts-cut padSize 4 padBytes noPad readPad bytes
     (λ i h. pad-again _ (bytes-drop (padSize * i) padSize (omega arith) whole) (λ b j. kinds bytes e i b j h)) in
     let entries =
     ap (λ (l : List Entry). joined 256 (λ i. entryBytes (getD l i noEntry))) (entries-in bytes)
-    ∙ parts-cut entrySize 256 entryBytes noEntry entryFrom (drop entriesStart bytes)
+    ∙ parts-cut entrySize 256 entryBytes noEntry readEntry (drop entriesStart bytes)
     (λ i h. entry-again _ (bytes-drop (entrySize * i) entrySize (omega arith) (bytes-drop entriesStart entriesSize (omega arith) whole)) (lives bytes e i h)) in
     (λ i. pads i ++ entries i) ∙ sym (take-add entriesStart entriesSize bytes) ∙ take-all imageSize bytes (omega (arith, image-whole bytes e))

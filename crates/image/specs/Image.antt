@@ -38,8 +38,8 @@ ticketNumbers k =
 unfoldable pub ticketBytes : Ticket → List ℕ
 ticketBytes k = bytesOf (ticketNumbers k)
 
-unfoldable pub ticketFrom : List ℕ → Ticket
-ticketFrom bytes = record {
+unfoldable pub readTicket : List ℕ → Ticket
+readTicket bytes = record {
   kind = kindOf (numberAt ticketKind bytes);
   number = numberAt ticketNumber bytes;
   own = numberAt ticketOwn bytes;
@@ -54,15 +54,15 @@ ticketFrom bytes = record {
 unfoldable pub programBytes : Program → List ℕ
 programBytes p = joined 8 (λ i. ticketBytes (getD (p .tickets) i free)) ++ bytesOf (p .last ∷ [])
 
-unfoldable pub programFrom : List ℕ → Program
-programFrom bytes = record { tickets = tabulate 8 (λ i. ticketFrom (drop (ticketSize * i) bytes)); last = numberAt programLast bytes }
+unfoldable pub readProgram : List ℕ → Program
+readProgram bytes = record { tickets = tabulate 8 (λ i. readTicket (drop (ticketSize * i) bytes)); last = numberAt programLast bytes }
 
 -- ---- a pad: its eight programs
 unfoldable pub padBytes : Pad → List ℕ
 padBytes p = joined 8 (λ i. programBytes (getD (p .programs) i noProgram))
 
-unfoldable pub padFrom : List ℕ → Pad
-padFrom bytes = record { programs = tabulate 8 (λ i. programFrom (drop (programSize * i) bytes)) }
+unfoldable pub readPad : List ℕ → Pad
+readPad bytes = record { programs = tabulate 8 (λ i. readProgram (drop (programSize * i) bytes)) }
 
 -- ---- an entry: 1 where it is live, else 0; name and parent (pad, program, number), first, count, rights
 unfoldable pub entryNumbers : Entry → List ℕ
@@ -73,8 +73,8 @@ entryNumbers e =
 unfoldable pub entryBytes : Entry → List ℕ
 entryBytes e = bytesOf (entryNumbers e)
 
-unfoldable pub entryFrom : List ℕ → Entry
-entryFrom bytes = record {
+unfoldable pub readEntry : List ℕ → Entry
+readEntry bytes = record {
   live = eqb (numberAt entryLive bytes) 1;
   name = nameAt entryName bytes;
   parent = nameAt entryParent bytes;
@@ -89,8 +89,8 @@ encode t = joined 4 (λ i. padBytes (getD (t .pads) i noPad)) ++ joined 256 (λ 
 
 unfoldable pub decode : List ℕ → Tables
 decode bytes = record {
-  pads = tabulate 4 (λ i. padFrom (drop (padSize * i) bytes));
-  entries = tabulate 256 (λ i. entryFrom (drop (entriesStart + entrySize * i) bytes));
+  pads = tabulate 4 (λ i. readPad (drop (padSize * i) bytes));
+  entries = tabulate 256 (λ i. readEntry (drop (entriesStart + entrySize * i) bytes));
 }
 
 -- ---- which bytes are an image: those of its length in which every kind is one of the five and every entry is live or not

@@ -11,30 +11,30 @@ use Rattle.tables.specs.Names.{free, noProgram, noPad}
 use Rattle.tables.specs.Lookup.{Sized, padAt, programAt, ticketsOf, lastOf}
 use Rattle.image.specs.Layout.{ticketSize, programLast, programSize, padSize}
 use Rattle.image.specs.Numbers.{numberAt}
-use Rattle.image.specs.Image.{ticketFrom, programFrom, padFrom, decode}
+use Rattle.image.specs.Image.{readTicket, readProgram, readPad, decode}
 use Rattle.image.proofs.NumberLaws.{number-drop}
 use Rattle.image_read.specs.Places.{lastStart, ticketsIn, lastsIn}
 use Rattle.image_read.proofs.Places.{tickets-long, lasts-long, entries-long, ticket-here, last-here, entries-decoded}
 use Rattle.image_places.specs.Places.{placed, Flattened}
 
 module _ (bytes : List ℕ) where
-  pad-read : (a : ℕ) → a < 4 → padAt (decode bytes) a ≡ padFrom (drop (padSize * a) bytes)
+  pad-read : (a : ℕ) → a < 4 → padAt (decode bytes) a ≡ readPad (drop (padSize * a) bytes)
   unfolding decode
-  pad-read a h = getD-tabulate 4 (λ i. padFrom (drop (padSize * i) bytes)) a noPad h
+  pad-read a h = getD-tabulate 4 (λ i. readPad (drop (padSize * i) bytes)) a noPad h
 
-  program-in : (a b : ℕ) → b < 8 → getD (padFrom (drop (padSize * a) bytes) .programs) b noProgram ≡ programFrom (drop (programSize * b) (drop (padSize * a) bytes))
-  unfolding padFrom
-  program-in a b h = getD-tabulate 8 (λ i. programFrom (drop (programSize * i) (drop (padSize * a) bytes))) b noProgram h
+  program-in : (a b : ℕ) → b < 8 → getD (readPad (drop (padSize * a) bytes) .programs) b noProgram ≡ readProgram (drop (programSize * b) (drop (padSize * a) bytes))
+  unfolding readPad
+  program-in a b h = getD-tabulate 8 (λ i. readProgram (drop (programSize * i) (drop (padSize * a) bytes))) b noProgram h
 
-  program-read : (a b : ℕ) → a < 4 → b < 8 → programAt (decode bytes) a b ≡ programFrom (drop (programSize * b) (drop (padSize * a) bytes))
+  program-read : (a b : ℕ) → a < 4 → b < 8 → programAt (decode bytes) a b ≡ readProgram (drop (programSize * b) (drop (padSize * a) bytes))
   program-read a b p q = ap (λ (x : Pad). getD (x .programs) b noProgram) (pad-read a p) ∙ program-in a b q
 
-  ticket-in : (part : List ℕ) (i : ℕ) → i < 8 → getD (programFrom part .tickets) i free ≡ ticketFrom (drop (ticketSize * i) part)
-  unfolding programFrom
-  ticket-in part i h = getD-tabulate 8 (λ j. ticketFrom (drop (ticketSize * j) part)) i free h
+  ticket-in : (part : List ℕ) (i : ℕ) → i < 8 → getD (readProgram part .tickets) i free ≡ readTicket (drop (ticketSize * i) part)
+  unfolding readProgram
+  ticket-in part i h = getD-tabulate 8 (λ j. readTicket (drop (ticketSize * j) part)) i free h
 
-  last-in : (part : List ℕ) → programFrom part .last ≡ numberAt programLast part
-  unfolding programFrom
+  last-in : (part : List ℕ) → readProgram part .last ≡ numberAt programLast part
+  unfolding readProgram
   last-in part = refl
 
   -- where a program begins
@@ -43,8 +43,8 @@ module _ (bytes : List ℕ) where
       let e : padSize * a + programSize * b ≡ programSize * (8 * a + b) = omega arith in
       drop-drop (programSize * b) (padSize * a) bytes ∙ ap (λ (m : ℕ). drop m bytes) e
 
-  program-there : (a b : ℕ) → a < 4 → b < 8 → programAt (decode bytes) a b ≡ programFrom (drop (programSize * (8 * a + b)) bytes)
-  program-there a b p q = program-read a b p q ∙ ap programFrom (program-start a b)
+  program-there : (a b : ℕ) → a < 4 → b < 8 → programAt (decode bytes) a b ≡ readProgram (drop (programSize * (8 * a + b)) bytes)
+  program-there a b p q = program-read a b p q ∙ ap readProgram (program-start a b)
 
   ticket-placed : (p : ℕ) → p < 256 → getD (ticketsIn bytes) p free ≡ placed (decode bytes) p
   ticket-placed p h =
@@ -56,7 +56,7 @@ module _ (bytes : List ℕ) where
       ∙ sym
       (ap (λ (q : Program). getD (q .tickets) (p % 8) free) (program-there (p / 64) (p / 8 % 8) a b)
       ∙ ticket-in (drop (programSize * (8 * (p / 64) + p / 8 % 8)) bytes) (p % 8) i
-      ∙ ap ticketFrom (drop-drop (ticketSize * (p % 8)) (programSize * (8 * (p / 64) + p / 8 % 8)) bytes ∙ ap (λ (m : ℕ). drop (programSize * m + ticketSize * (p % 8)) bytes) s))
+      ∙ ap readTicket (drop-drop (ticketSize * (p % 8)) (programSize * (8 * (p / 64) + p / 8 % 8)) bytes ∙ ap (λ (m : ℕ). drop (programSize * m + ticketSize * (p % 8)) bytes) s))
 
   last-placed : (a b : ℕ) → a < 4 → b < 8 → getD (lastsIn bytes) (8 * a + b) 0 ≡ lastOf (decode bytes) a b
   last-placed a b p q =
@@ -72,15 +72,15 @@ module _ (bytes : List ℕ) where
   -- ---- tables that are read have their lengths
   pads-long : length (decode bytes .pads) ≡ 4
   unfolding decode
-  pads-long = length-tabulate 4 (λ i. padFrom (drop (padSize * i) bytes))
+  pads-long = length-tabulate 4 (λ i. readPad (drop (padSize * i) bytes))
 
-  programs-in : (part : List ℕ) → length (padFrom part .programs) ≡ 8
-  unfolding padFrom
-  programs-in part = length-tabulate 8 (λ i. programFrom (drop (programSize * i) part))
+  programs-in : (part : List ℕ) → length (readPad part .programs) ≡ 8
+  unfolding readPad
+  programs-in part = length-tabulate 8 (λ i. readProgram (drop (programSize * i) part))
 
-  tickets-in : (part : List ℕ) → length (programFrom part .tickets) ≡ 8
-  unfolding programFrom
-  tickets-in part = length-tabulate 8 (λ i. ticketFrom (drop (ticketSize * i) part))
+  tickets-in : (part : List ℕ) → length (readProgram part .tickets) ≡ 8
+  unfolding readProgram
+  tickets-in part = length-tabulate 8 (λ i. readTicket (drop (ticketSize * i) part))
 
   pub decoded-sized : Sized (decode bytes)
   decoded-sized = record {

@@ -6,17 +6,17 @@ use Rattle.lists.specs.Parts.{tabulate}
 use Rattle.tables.specs.declared.{Ticket.Ticket, Entry.Entry}
 use Rattle.image.specs.Layout.{programLast, programSize}
 use Rattle.image.specs.Numbers.{numberAt}
-use Rattle.image.specs.Image.{ticketFrom, entryFrom, ticketStart, entryStart}
+use Rattle.image.specs.Image.{readTicket, readEntry, ticketStart, entryStart}
 
 -- where the last number of a program stands, programs counted over all pads
 abbrev pub lastStart : ℕ → ℕ
 lastStart program = programSize * program + programLast
 
 unfoldable pub ticketsIn : List ℕ → List Ticket
-ticketsIn bytes = tabulate 256 (λ place. ticketFrom (drop (ticketStart place) bytes))
+ticketsIn bytes = tabulate 256 (λ place. readTicket (drop (ticketStart place) bytes))
 
 unfoldable pub lastsIn : List ℕ → List ℕ
 lastsIn bytes = tabulate 32 (λ program. numberAt (lastStart program) bytes)
 
 unfoldable pub entriesIn : List ℕ → List Entry
-entriesIn bytes = tabulate 256 (λ place. entryFrom (drop (entryStart place) bytes))
+entriesIn bytes = tabulate 256 (λ place. readEntry (drop (entryStart place) bytes))

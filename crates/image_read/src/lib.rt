@@ -5,7 +5,7 @@ ghost use lib.ListN.{length, getD};
 ghost use Rattle.image.specs.Layout.{ticketSize, programSize, entrySize, imageSize};
 ghost use Rattle.image.specs.Numbers.{numberAt};
 ghost use Rattle.tables.specs.Names.{free, noEntry};
-ghost use Rattle.image.specs.Image.{kindOf, nameAt, ticketFrom, programFrom, entryFrom, ticketStart, entryStart};
+ghost use Rattle.image.specs.Image.{kindOf, nameAt, readTicket, readProgram, readEntry, ticketStart, entryStart};
 ghost use Rattle.image_read.specs.Places.{ticketsIn, lastsIn, entriesIn};
 use image::{
     ENTRIES, ENTRY, ENTRY_COUNT, ENTRY_FIRST, ENTRY_LIVE, ENTRY_NAME, ENTRY_PARENT, ENTRY_RIGHTS, PROGRAM, PROGRAM_LAST,
@@ -56,7 +56,7 @@ fn kind_of(n: u16) -> Kind
 
 fn ticket_in(bytes: &[u8]) -> Ticket
     requires { ⌜ ticketSize ≤ length (now bytes) ⌝ }
-    ensures { λ r. ⌜ r ≡ ticketFrom (now (bytes .entry)) ⌝ }
+    ensures { λ r. ⌜ r ≡ readTicket (now (bytes .entry)) ⌝ }
 {
     let kind = kind_of(number_at(bytes, TICKET_KIND));
     let other = name_at(bytes, TICKET_OTHER);
@@ -76,7 +76,7 @@ fn ticket_in(bytes: &[u8]) -> Ticket
 
 fn program_in(bytes: &[u8]) -> Program
     requires { ⌜ programSize ≤ length (now bytes) ⌝ }
-    ensures { λ r. ⌜ r ≡ programFrom (now (bytes .entry)) ⌝ }
+    ensures { λ r. ⌜ r ≡ readProgram (now (bytes .entry)) ⌝ }
 {
     let free = Ticket::free();
     let mut tickets = [free; 8];
@@ -95,7 +95,7 @@ fn program_in(bytes: &[u8]) -> Program
 
 fn entry_in(bytes: &[u8]) -> Entry
     requires { ⌜ entrySize ≤ length (now bytes) ⌝ }
-    ensures { λ r. ⌜ r ≡ entryFrom (now (bytes .entry)) ⌝ }
+    ensures { λ r. ⌜ r ≡ readEntry (now (bytes .entry)) ⌝ }
 {
     let live = number_at(bytes, ENTRY_LIVE);
     let name = name_at(bytes, ENTRY_NAME);

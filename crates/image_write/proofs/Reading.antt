@@ -12,7 +12,7 @@ use Rattle.rights.specs.Rules.{rightsOf}
 use Rattle.tables.specs.Names.{nameOf}
 use Rattle.image.specs.Layout.{ticketSize, entrySize}
 use Rattle.image.specs.Numbers.{numberAt}
-use Rattle.image.specs.Image.{kindOf, ticketFrom, entryFrom, ticketStart, entryStart}
+use Rattle.image.specs.Image.{kindOf, readTicket, readEntry, ticketStart, entryStart}
 use Rattle.image_read.specs.Places.{lastStart}
 use Rattle.image_write.proofs.Parts.{Outside}
 
@@ -25,8 +25,8 @@ module _ (x y : List ℕ) where
     pub number-same : (at : ℕ) → at + 2 ≤ n → numberAt at x ≡ numberAt at y
     number-same at h = λ i. same at (omega (arith, h)) i + 256 * same (at + 1) (omega (arith, h)) i
 
-  pub ticket-same : SameFirst ticketSize → ticketFrom x ≡ ticketFrom y
-  unfolding ticketFrom
+  pub ticket-same : SameFirst ticketSize → readTicket x ≡ readTicket y
+  unfolding readTicket
   ticket-same same =
       let n = number-same ticketSize same in
       λ i. record {
@@ -40,8 +40,8 @@ module _ (x y : List ℕ) where
         dock = nameOf (n 18 (omega arith) i) (n entrySize (omega arith) i) (n 22 (omega arith) i);
       }
 
-  pub entry-same : SameFirst entrySize → entryFrom x ≡ entryFrom y
-  unfolding entryFrom
+  pub entry-same : SameFirst entrySize → readEntry x ≡ readEntry y
+  unfolding readEntry
   entry-same same =
       let n = number-same entrySize same in
       λ i. record {

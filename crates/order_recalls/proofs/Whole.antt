@@ -14,7 +14,7 @@ use Rattle.tables.specs.Names.{free}
 use Rattle.tables.specs.Order.{everyTicket, recallOk, t6}
 use Rattle.tables.proofs.Fits.{NameFits}
 use Rattle.image.specs.Numbers.{numberAt}
-use Rattle.image.specs.Image.{ticketFrom, ticketStart}
+use Rattle.image.specs.Image.{readTicket, ticketStart}
 use Rattle.image_read.specs.Places.{ticketsIn, lastsIn}
 use Rattle.image_read.proofs.Places.{ticket-here}
 use Rattle.image_places.proofs.Laws.{every-placed, placed-every}
@@ -29,8 +29,8 @@ number-fits bytes small start at =
     omega
     (arith, getD-drop start bytes at 0, getD-drop start bytes (at + 1) 0, small (start + at), small (start + (at + 1)))
 
-target-fits : (bytes : List ℕ) → ((i : ℕ) → getD bytes i 0 < 256) → (start : ℕ) → NameFits (ticketFrom (drop start bytes) .other)
-unfolding ticketFrom
+target-fits : (bytes : List ℕ) → ((i : ℕ) → getD bytes i 0 < 256) → (start : ℕ) → NameFits (readTicket (drop start bytes) .other)
+unfolding readTicket
 target-fits bytes small start = record {
   pad = number-fits bytes small start 6;
   program = number-fits bytes small start 8;

@@ -1,7 +1,7 @@
 use mathlib.Core.Path.{sym, ap, _∙_}
 use borrow.Author.Needs.{needs}
 use Rattle.lists.proofs.Front.{rest-part}
-use Rattle.image.specs.Image.{entryFrom, entryStart}
+use Rattle.image.specs.Image.{readEntry, entryStart}
 use Rattle.image_read.proofs.Places.{entry-here}
 use Rattle.image_read.proofs.entry_at.Statement.{statement}
 use Rattle.image_read.proofs.entry_at.Tie as tie
@@ -27,7 +27,7 @@ entry-in-requires c κs = search needs
 returns : tie.Need-returns
 returns c =
     let s = c .before .before .before .args in
-    c .entry-in .ensures ∙ ap entryFrom (rest-part (s .bytes .now) (entryStart (s .place))) ∙ sym (entry-here (s .bytes .now) (s .place) (c .before .before .before .pre .1))
+    c .entry-in .ensures ∙ ap readEntry (rest-part (s .bytes .now) (entryStart (s .place))) ∙ sym (entry-here (s .bytes .now) (s .place) (c .before .before .before .pre .1))
 
 pub entry-at-spec : {M : Type 1} → statement M
 entry-at-spec =

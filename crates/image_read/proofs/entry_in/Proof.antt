@@ -3,7 +3,7 @@ use mathlib.Core.Path.{ap, _∙_}
 use lib.Dec.{eqb}
 use borrow.Author.Needs.{needs}
 use Rattle.rights.specs.Rules.{rightsOf}
-use Rattle.image.specs.Image.{entryFrom}
+use Rattle.image.specs.Image.{readEntry}
 use Rattle.image_read.proofs.entry_in.Statement.{statement}
 use Rattle.image_read.proofs.entry_in.Tie as tie
 
@@ -29,7 +29,7 @@ number-at-requires-4 : tie.Need-number-at-requires-4
 number-at-requires-4 c κs = search needs
 
 returns : tie.Need-returns
-unfolding entryFrom
+unfolding readEntry
 returns c =
     let c3 = c .before .before .before in
     let c4 = c3 .before in

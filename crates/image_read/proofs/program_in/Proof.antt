@@ -9,12 +9,12 @@ use Rattle.lists.proofs.Laid.{Laid, laid-none, one-more}
 use Rattle.lists.proofs.PartLaws.{tabulated}
 use Rattle.tables.specs.Names.{free}
 use Rattle.image.specs.Layout.{ticketSize}
-use Rattle.image.specs.Image.{ticketFrom, programFrom}
+use Rattle.image.specs.Image.{readTicket, readProgram}
 use Rattle.image_read.proofs.program_in.Statement.{statement}
 use Rattle.image_read.proofs.program_in.Tie as tie
 
 abbrev Inv-loop : tie.InvT-loop
-Inv-loop bytes tickets₀ i₀ tickets i = (i ≤ 8) × Laid free 8 (λ j. ticketFrom (drop (ticketSize * j) bytes)) i tickets
+Inv-loop bytes tickets₀ i₀ tickets i = (i ≤ 8) × Laid free 8 (λ j. readTicket (drop (ticketSize * j) bytes)) i tickets
 
 abbrev μ-loop : tie.MeasureT-loop
 μ-loop bytes tickets₀ i₀ tickets i = 8 - i
@@ -23,7 +23,7 @@ free-requires : tie.Need-free-requires Inv-loop μ-loop
 free-requires c κs = search needs
 
 loop-holds : tie.Need-loop-holds Inv-loop μ-loop
-loop-holds c = (omega arith, laid-none free 8 (λ j. ticketFrom (drop (ticketSize * j) (c .before .before .args .bytes .now))) (c .free .result))
+loop-holds c = (omega arith, laid-none free 8 (λ j. readTicket (drop (ticketSize * j) (c .before .before .args .bytes .now))) (c .free .result))
 
 mul-at : tie.Need-mul-at Inv-loop μ-loop
 mul-at c = search needs
@@ -58,20 +58,20 @@ loop-again c =
     let c6 = c3 .before .before .before in
     let l = c6 .args .bytes .now in (
       omega arith,
-      one-more free 8 (λ j. ticketFrom (drop (ticketSize * j) l)) (c3 .loop .i) _ _ (c3 .loop .inv .1) (omega arith)
-          (c .ticket-in .ensures ∙ ap ticketFrom (rest-part l (ticketSize * c3 .loop .i))),
+      one-more free 8 (λ j. readTicket (drop (ticketSize * j) l)) (c3 .loop .i) _ _ (c3 .loop .inv .1) (omega arith)
+          (c .ticket-in .ensures ∙ ap readTicket (rest-part l (ticketSize * c3 .loop .i))),
     )
 
 number-at-requires : tie.Need-number-at-requires Inv-loop μ-loop
 number-at-requires c κs = search needs
 
 returns : tie.Need-returns Inv-loop μ-loop
-unfolding programFrom
+unfolding readProgram
 returns c =
     let c5 = c .before .before .before .before .before in
     let l = c5 .args .bytes .now in
     λ i. record {
-      tickets = tabulated free 8 (c .before .before .loop .i) (λ j. ticketFrom (drop (ticketSize * j) l)) (c .before .before .loop .tickets) (omega arith) (c .before .before .loop .inv .1) i;
+      tickets = tabulated free 8 (c .before .before .loop .i) (λ j. readTicket (drop (ticketSize * j) l)) (c .before .before .loop .tickets) (omega arith) (c .before .before .loop .inv .1) i;
       last = c .number-at .ensures i;
     }
 

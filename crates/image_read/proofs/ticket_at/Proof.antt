@@ -1,7 +1,7 @@
 use mathlib.Core.Path.{sym, ap, _∙_}
 use borrow.Author.Needs.{needs}
 use Rattle.lists.proofs.Front.{rest-part}
-use Rattle.image.specs.Image.{ticketFrom, ticketStart}
+use Rattle.image.specs.Image.{readTicket, ticketStart}
 use Rattle.image_read.proofs.Places.{ticket-here}
 use Rattle.image_read.proofs.ticket_at.Statement.{statement}
 use Rattle.image_read.proofs.ticket_at.Tie as tie
@@ -30,7 +30,7 @@ ticket-in-requires c κs = search needs
 returns : tie.Need-returns
 returns c =
     let s = c .before .before .before .args in
-    c .ticket-in .ensures ∙ ap ticketFrom (rest-part (s .bytes .now) (ticketStart (s .place))) ∙ sym (ticket-here (s .bytes .now) (s .place) (c .before .before .before .pre .1))
+    c .ticket-in .ensures ∙ ap readTicket (rest-part (s .bytes .now) (ticketStart (s .place))) ∙ sym (ticket-here (s .bytes .now) (s .place) (c .before .before .before .pre .1))
 
 pub ticket-at-spec : {M : Type 1} → statement M
 ticket-at-spec =

@@ -2,7 +2,7 @@
 use mathlib.Core.Path.{ap, _∙_}
 use borrow.Author.Needs.{needs}
 use Rattle.rights.specs.Rules.{rightsOf}
-use Rattle.image.specs.Image.{kindOf, ticketFrom}
+use Rattle.image.specs.Image.{kindOf, readTicket}
 use Rattle.image_read.proofs.ticket_in.Statement.{statement}
 use Rattle.image_read.proofs.ticket_in.Tie as tie
 
@@ -37,7 +37,7 @@ number-at-requires-6 : tie.Need-number-at-requires-6
 number-at-requires-6 c κs = search needs
 
 returns : tie.Need-returns
-unfolding ticketFrom
+unfolding readTicket
 returns c =
     let c3 = c .before .before .before in
     let c4 = c3 .before in
