@@ -1,3 +1,4 @@
 pub mod NumberLaws
 pub mod Lengths
 pub mod RoundTrip
+pub mod EmptyImage
