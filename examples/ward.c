@@ -2,7 +2,7 @@
  * A small host: it keeps one dock and plays the ward's story on it, request by request. What it
  * prints is what the trace program prints for crates/test_cases/data/ward.in.
  *
- * cc -std=c99 -O2 -Iinclude examples/ward.c target/staticlib/libhost.a -o ward
+ * cc -std=c99 -O2 -Iinclude examples/ward.c target/staticlib/libdock.a -o ward
  */
 #include "dock.h"
 #include <stdio.h>

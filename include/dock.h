@@ -1,7 +1,7 @@
 /*
  * The dock's ink store and the tickets to it: the C boundary of the proved library.
  *
- * Build it with `rt staticlib host` and link target/staticlib/libhost.a. "Document 01" is the paper
+ * Build it with `rt staticlib dock` and link target/staticlib/libdock.a. "Document 01" is the paper
  * of requirements that the numbers and the words below come from.
  *
  * What the caller guarantees, in every call:

@@ -9,12 +9,12 @@ fn main() {
         None => PathBuf::from(env::var_os("CARGO_MANIFEST_DIR").expect("cargo sets the manifest's folder"))
             .join("../../target/staticlib"),
     };
-    let library = folder.join("libhost.a");
+    let library = folder.join("libdock.a");
     println!("cargo:rerun-if-changed={}", library.display());
     if !library.is_file() {
-        eprintln!("{} is not there: run `rt staticlib host` first", library.display());
+        eprintln!("{} is not there: run `rt staticlib dock` first", library.display());
         exit(1);
     }
     println!("cargo:rustc-link-search=native={}", folder.display());
-    println!("cargo:rustc-link-lib=static=host");
+    println!("cargo:rustc-link-lib=static=dock");
 }

@@ -1,4 +1,3 @@
 pub mod Numbers
 pub mod Steps
 pub mod Refusals
-pub mod IsSequence

@@ -1,19 +1,14 @@
--- An answer's three numbers: stored in a list of three, and counted.
+-- An answer's numbers, stored in a list of as many.
 use Prim.Native.Nat.{ℕ}
 use native.Mathlib.Omega.{arith}
 use mathlib.Core.Path.{_≡_, refl}
 use mathlib.Core.List.{List, [], _∷_}
 use lib.ListN.{length, set}
-use Rattle.machine.specs.declared.Answer.{Answer}
-use Rattle.batch.specs.Numbers.{answerNumbers}
+use Rattle.machine.specs.Numbers.{answerWidth}
 
-pub three-stored : (l : List ℕ) (a b c : ℕ) → length l ≡ 3 → set (set (set l 0 a) 1 b) 2 c ≡ a ∷ b ∷ c ∷ []
-three-stored (x ∷ y ∷ z ∷ []) a b c e = refl
-three-stored [] a b c e = absurd (omega arith)
-three-stored (x ∷ []) a b c e = absurd (omega arith)
-three-stored (x ∷ y ∷ []) a b c e = absurd (omega arith)
-three-stored (x ∷ y ∷ z ∷ w ∷ l) a b c e = absurd (omega arith)
-
-pub answer-long : (a : Answer) → length (answerNumbers a) ≡ 3
-unfolding answerNumbers
-answer-long a = refl
+pub all-stored : (l : List ℕ) (a b c : ℕ) → length l ≡ answerWidth → set (set (set l 0 a) 1 b) 2 c ≡ a ∷ b ∷ c ∷ []
+all-stored (x ∷ y ∷ z ∷ []) a b c e = refl
+all-stored [] a b c e = absurd (omega arith)
+all-stored (x ∷ []) a b c e = absurd (omega arith)
+all-stored (x ∷ y ∷ []) a b c e = absurd (omega arith)
+all-stored (x ∷ y ∷ z ∷ w ∷ l) a b c e = absurd (omega arith)

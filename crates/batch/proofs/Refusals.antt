@@ -9,11 +9,15 @@ use lib.ListN.{length}
 use borrow.Author.Tests.{eqb-true, eqb-false, eq-eqb, ne-eqb, not-true, not-false}
 use Rattle.lists.proofs.Tests.{Case, pass, fail, case, and-l, and-r}
 use Rattle.tables.specs.Order.{inOrder}
+use Rattle.machine.specs.Numbers.{answerWidth}
 use Rattle.machine.specs.Refusal.{_when_else_}
+use Rattle.image.specs.Layout.{imageSize}
 use Rattle.image.specs.Image.{decode, isImage}
-use Rattle.batch.specs.Numbers.{countOf}
-use Rattle.batch.specs.Sequence.{Whole, AllServed}
-use Rattle.batch.specs.Batch.{Buffers, lengthsFit, lengthsOk, tablesOk, batchRefusal, startOf, allServed, untouched, batch, Leaves}
+use Rattle.lending.specs.Numbers.{countOf}
+use Rattle.lending.specs.Sequence.{Whole, AllServed}
+use Rattle.lending.specs.Batch.{Buffers, buffersFit, tablesOk, batchRefusal, startOf, allServed, untouched, batch, Leaves}
+use Rattle.lending.proofs.Lengths.{fit}
+use Rattle.lending.proofs.Refusals.{tables-told}
 
 -- ---- a test in the code, by what its routine ensures
 pub passed : {r b : Bool} → r ≡ b → not r ≡ false → b ≡ true
@@ -23,39 +27,22 @@ pub failed : {r b : Bool} → r ≡ b → not r ≡ true → b ≡ false
 failed {r} e n = sym e ∙ not-true r n
 
 -- ---- lengths
-pub record Fit (tables′ store′ sheets′ requests′ answers′ : ℕ) : Type 0 where
-  pub tables : tables′ ≡ 11328
-  pub store : store′ ≡ 16384
-  pub sheets : sheets′ ≡ 64 * (requests′ / 9)
-  pub requests : requests′ ≡ 9 * (requests′ / 9)
-  pub answers : answers′ ≡ 3 * (requests′ / 9)
-
-pub fit : (a b c d e : ℕ) → lengthsFit a b c d e ≡ true → Fit a b c d e
-unfolding lengthsFit
-fit a b c d e h = record {
-  tables = eqb-true a 11328 (search (and-l, and-r) depth 8);
-  store = eqb-true b 16384 (search (and-l, and-r) depth 8);
-  sheets = eqb-true c (64 * (d / 9)) (search (and-l, and-r) depth 8);
-  requests = eqb-true d (9 * (d / 9)) (search (and-l, and-r) depth 8);
-  answers = eqb-true e (3 * (d / 9)) (search (and-l, and-r) depth 8);
-}
-
-pub whole : (b : Buffers) → lengthsOk b ≡ true → Whole (countOf (b .requests)) (b .store) (b .sheets) (b .requests) (b .answers)
+pub whole : (b : Buffers) → buffersFit b ≡ true → Whole (countOf (b .requests)) (b .store) (b .sheets) (b .requests) (b .answers)
 whole b h =
     let f = fit (length (b .tables)) (length (b .store)) (length (b .sheets)) (length (b .requests)) (length (b .answers)) h in
     record { store = f .store; sheets = f .sheets; requests = f .requests; answers = f .answers }
 
-pub image-whole : (b : Buffers) → lengthsOk b ≡ true → length (b .tables) ≡ 11328
+pub image-whole : (b : Buffers) → buffersFit b ≡ true → length (b .tables) ≡ imageSize
 image-whole b h =
     fit (length (b .tables)) (length (b .store)) (length (b .sheets)) (length (b .requests)) (length (b .answers)) h .tables
 
--- a multiple of three is so many threes
-pub by-thirds : (answers n : ℕ) → answers % 3 ≡ 0 → eqb (answers / 3) n ≡ eqb answers (3 * n)
-by-thirds answers n h = go (case (eqb answers (3 * n)))
+-- numbers of whole answers are so many answers
+pub whole-answers : (answers n : ℕ) → answers % answerWidth ≡ 0 → eqb (answers / answerWidth) n ≡ eqb answers (answerWidth * n)
+whole-answers answers n h = go (case (eqb answers (answerWidth * n)))
   where
-    go : Case (eqb answers (3 * n)) → eqb (answers / 3) n ≡ eqb answers (3 * n)
-    go (pass e) = let q = eqb-true answers (3 * n) e in rw (e, eq-eqb (answers / 3) n (omega (arith, q)))
-    go (fail e) = rw (e, ne-eqb (answers / 3) n (λ q. eqb-false answers (3 * n) e (omega (arith, q, h))))
+    go : Case (eqb answers (answerWidth * n)) → eqb (answers / answerWidth) n ≡ eqb answers (answerWidth * n)
+    go (pass e) = let q = eqb-true answers (answerWidth * n) e in rw (e, eq-eqb (answers / answerWidth) n (omega (arith, q)))
+    go (fail e) = rw (e, ne-eqb (answers / answerWidth) n (λ q. eqb-false answers (answerWidth * n) e (omega (arith, q, h))))
 
 -- ---- a batch that is refused
 is-refused : (b : Buffers) (n : ℕ) → batchRefusal b ≡ n → (n ≡ 0 → ⊥) → untouched b n ≡ batch b
@@ -75,29 +62,25 @@ refused-leaves b n e ne =
       decoded = λ z. absurd (ne z);
     }
 
-pub leaves-13 : (b : Buffers) → lengthsOk b ≡ false → Leaves b 13 (b .tables) (b .store) (b .sheets) (b .answers)
+pub leaves-13 : (b : Buffers) → buffersFit b ≡ false → Leaves b 13 (b .tables) (b .store) (b .sheets) (b .answers)
 unfolding batchRefusal _when_else_
 leaves-13 b e = refused-leaves b 13 (rw e) (λ z. omega arith)
 
-pub leaves-14 : (b : Buffers) → lengthsOk b ≡ true → tablesOk (b .tables) ≡ false → Leaves b 14 (b .tables) (b .store) (b .sheets) (b .answers)
+pub leaves-14 : (b : Buffers) → buffersFit b ≡ true → tablesOk (b .tables) ≡ false → Leaves b 14 (b .tables) (b .store) (b .sheets) (b .answers)
 unfolding batchRefusal _when_else_
 leaves-14 b h e = refused-leaves b 14 (rw (h, e)) (λ z. omega arith)
 
 -- ---- the one test of the tables, by what its routine ensures
 module _ (bytes : List ℕ) {r : Bool} (e : r ≡ (isImage bytes && inOrder (decode bytes))) where
-  tables-told : r ≡ tablesOk bytes
-  unfolding tablesOk
-  tables-told = e
-
   pub tables-bad : not r ≡ true → tablesOk bytes ≡ false
-  tables-bad n = failed tables-told n
+  tables-bad n = failed (tables-told bytes e) n
 
   pub out-of-order : isImage bytes ≡ true → not r ≡ true → inOrder (decode bytes) ≡ false
   out-of-order i n = sym (ap (λ (b : Bool). b && inOrder (decode bytes)) i) ∙ failed e n
 
   module _ (n : not r ≡ false) where
     pub tables-ok : tablesOk bytes ≡ true
-    tables-ok = passed tables-told n
+    tables-ok = passed (tables-told bytes e) n
 
     pub is-image : isImage bytes ≡ true
     is-image = and-l (isImage bytes) (inOrder (decode bytes)) (passed e n)
@@ -106,11 +89,11 @@ module _ (bytes : List ℕ) {r : Bool} (e : r ≡ (isImage bytes && inOrder (dec
     is-in-order = and-r (isImage bytes) (inOrder (decode bytes)) (passed e n)
 
 -- ---- a batch that was served
-is-served : (b : Buffers) → lengthsOk b ≡ true → tablesOk (b .tables) ≡ true → allServed b ≡ batch b
+is-served : (b : Buffers) → buffersFit b ≡ true → tablesOk (b .tables) ≡ true → allServed b ≡ batch b
 unfolding batch batchRefusal _when_else_
 is-served b h o = rw (h, o)
 
-pub leaves-0 : (b : Buffers) → lengthsOk b ≡ true → tablesOk (b .tables) ≡ true → (tables′ store′ sheets′ answers′ : List ℕ)
+pub leaves-0 : (b : Buffers) → buffersFit b ≡ true → tablesOk (b .tables) ≡ true → (tables′ store′ sheets′ answers′ : List ℕ)
     → AllServed (startOf b) (countOf (b .requests)) tables′ store′ sheets′ answers′ → Leaves b 0 tables′ store′ sheets′ answers′
 unfolding allServed
 leaves-0 b h o tables′ store′ sheets′ answers′ all =

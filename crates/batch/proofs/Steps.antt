@@ -11,17 +11,17 @@ use Rattle.lists.proofs.PartLaws.{Written, written-none, written-next, written-
 use Rattle.tables.specs.declared.Tables.{Tables}
 use Rattle.tables.specs.Order.{inOrder, noFarChild}
 use Rattle.machine.specs.declared.{Request.Request, Answer.Answer}
-use Rattle.machine.specs.State.{State, Outcome, sheetAt}
+use Rattle.machine.specs.State.{State, Outcome, sheetAt, stateOf}
+use Rattle.machine.specs.Numbers.{answerWidth, answerNumbers}
 use Rattle.machine.specs.Step.{step}
 use Rattle.preservation.proofs.StepKeepsOrder.{PassesTests, step-keeps-tests}
 use Rattle.image.specs.Image.{encode, decode, isImage}
 use Rattle.image.proofs.RoundTrip.{encode-decode, encode-is-image}
 use Rattle.image_find.proofs.Laws.{decoded-sized}
-use Rattle.op_outcome.specs.Outcomes.{stateOf}
 use Rattle.op_serve.specs.Contract.{LeavesLent}
-use Rattle.batch.specs.Numbers.{requestAt, answerNumbers}
-use Rattle.batch.specs.Sequence.{Start, met, outcomeAt, startWith, AllServed}
-use Rattle.batch.proofs.Numbers.{answer-long}
+use Rattle.lending.specs.Numbers.{requestAt}
+use Rattle.lending.specs.Sequence.{Start, met, outcomeAt, startWith, AllServed}
+use Rattle.lending.proofs.Lengths.{answer-long}
 
 -- the i-th request's own sheet buffer and answer
 abbrev pub sheetPart : Start → ℕ → List ℕ
@@ -37,7 +37,7 @@ pub record Going (b : Start) (n : ℕ) (room : List ℕ) (keeps : Bool) (i : ℕ
   pub store : store′ ≡ met b i .store
   pub long : length store′ ≡ 16384
   pub sheets : Written 64 (sheetPart b) (b .sheets) i sheets′
-  pub answers : Written 3 (answerPart b) room i answers′
+  pub answers : Written answerWidth (answerPart b) room i answers′
   pub ordered : sure ≡ true → inOrder (decode image) ≡ true
   pub kept : keeps ≡ true → PassesTests (met b i .tables)
 
@@ -52,7 +52,7 @@ begins image store sheets requests n room keeps small is long order far = record
   store = refl;
   long = long;
   sheets = written-none 64 (sheetPart (startWith (decode image) store sheets requests)) sheets;
-  answers = written-none 3 (answerPart (startWith (decode image) store sheets requests)) room;
+  answers = written-none answerWidth (answerPart (startWith (decode image) store sheets requests)) room;
   ordered = λ e. order;
   kept = λ e. record { sized = decoded-sized image; order = order; noFar = far e };
 }
@@ -68,7 +68,7 @@ module _ (b : Start) (n : ℕ) (room : List ℕ) (keeps : Bool) (i : ℕ) (image
   pub still-image : isImage image ≡ true
   still-image = ap isImage (g .tables) ∙ encode-is-image (met b i .tables)
 
-  pub ends : n ≤ i → length (b .sheets) ≡ 64 * n → length room ≡ 3 * n → AllServed b n image store sheets answers
+  pub ends : n ≤ i → length (b .sheets) ≡ 64 * n → length room ≡ answerWidth * n → AllServed b n image store sheets answers
   ends h a c =
       let e : i ≡ n = omega (arith, g .inside) in
       record {
@@ -76,7 +76,7 @@ module _ (b : Start) (n : ℕ) (room : List ℕ) (keeps : Bool) (i : ℕ) (image
         decoded = g .decoded ∙ ap (λ (m : ℕ). met b m .tables) e;
         store = g .store ∙ ap (λ (m : ℕ). met b m .store) e;
         sheets = written-all 64 (sheetPart b) (b .sheets) i sheets (g .sheets) n e a;
-        answers = written-all 3 (answerPart b) room i answers (g .answers) n e c;
+        answers = written-all answerWidth (answerPart b) room i answers (g .answers) n e c;
       }
 
   -- what is lent for the i-th request's sheet is its sheet
@@ -103,9 +103,9 @@ module _ (b : Start) (n : ℕ) (room : List ℕ) (keeps : Bool) (i : ℕ) (image
         subst PassesTests (ap (λ (s : State). s .tables) left) (step-keeps-tests (met b i) (requestAt i (b .requests)) p)
 
     pub next : (k′ : ℕ) (answer′ : List ℕ) → length store′ ≡ 16384 → length sheet′ ≡ 64 → i < n → length (b .sheets) ≡ 64 * n
-        → length room ≡ 3 * n → k′ ≡ 3 → answer′ ≡ answerNumbers a
-        → Going b n room keeps (i + 1) image′ store′ (putMid (64 * i) k sheets sheet′) (putMid (3 * i) k′ answers answer′) keeps
-    next k′ answer′ long wide more x y three put =
+        → length room ≡ answerWidth * n → k′ ≡ answerWidth → answer′ ≡ answerNumbers a
+        → Going b n room keeps (i + 1) image′ store′ (putMid (64 * i) k sheets sheet′) (putMid (answerWidth * i) k′ answers answer′) keeps
+    next k′ answer′ long wide more x y all put =
         let read : decode image′ ≡ met b (i + 1) .tables = here .decoded ∙ ap (λ (s : State). s .tables) left in
         record {
           inside = omega arith;
@@ -115,7 +115,7 @@ module _ (b : Start) (n : ℕ) (room : List ℕ) (keeps : Bool) (i : ℕ) (image
           long = long;
           sheets = written-more 64 (sheetPart b) (b .sheets) i sheets (g .sheets) (64 * i) k sheet′ refl whole
               (ap length (sym (here .sheet)) ∙ wide) (omega arith) (here .sheet);
-          answers = written-more 3 (answerPart b) room i answers (g .answers) (3 * i) k′ answer′ refl three (answer-long (outcomeAt b i .answer))
+          answers = written-more answerWidth (answerPart b) room i answers (g .answers) (answerWidth * i) k′ answer′ refl all (answer-long (outcomeAt b i .answer))
               (omega arith) (put ∙ ap answerNumbers (here .answer));
           ordered = λ e. subst (λ (x : Tables). inOrder x ≡ true) (sym read) (still-kept (g .kept e) .order);
           kept = λ e. still-kept (g .kept e);

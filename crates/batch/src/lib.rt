@@ -6,45 +6,24 @@ ghost use mathlib.Core.Bool.{true};
 ghost use lib.ListN.{length};
 ghost use Rattle.tables.specs.Order.{inOrder, noFarChild};
 ghost use Rattle.machine.specs.Step.{step};
+ghost use Rattle.machine.specs.State.{stateOf};
+ghost use Rattle.machine.specs.Numbers.{answerWidth, answerNumbers};
+ghost use Rattle.image.specs.Layout.{imageSize};
 ghost use Rattle.image.specs.Image.{decode, isImage};
-ghost use Rattle.op_outcome.specs.Outcomes.{stateOf};
 ghost use Rattle.op_serve.specs.Contract.{Lengths, LeavesLent};
-ghost use Rattle.batch.specs.Numbers.{requestIn, countOf, answerNumbers};
-ghost use Rattle.batch.specs.Sequence.{startWith, Whole, AllServed};
-ghost use Rattle.batch.specs.Batch.{lengthsFit, buffersOf, Leaves};
+ghost use Rattle.lending.specs.Numbers.{countOf};
+ghost use Rattle.lending.specs.Sequence.{startWith, Whole, AllServed};
+ghost use Rattle.lending.specs.Batch.{lengthsFit, buffersOf, Leaves};
+use image::IMAGE;
 use machine::Answer;
 use machine::Request;
+use op_form::ANSWER;
+use op_form::REQUEST;
+use op_sheets::SHEET;
+use op_sheets::STORE;
 
-// Bytes of the tables' image, of the store and of a sheet; numbers of a request and of an answer.
-const TABLES: usize = 11328;
-
-const STORE: usize = 16384;
-
-const SHEET: usize = 64;
-
-const REQUEST: usize = 9;
-
-const ANSWER: usize = 3;
-
-pub fn request_in(numbers: &[u16]) -> Request
-    requires { ⌜ 9 ≤ length (now numbers) ⌝ }
-    ensures { λ r. ⌜ r ≡ requestIn (now (numbers .entry)) ⌝ }
-{
-    Request {
-        pad: numbers[0],
-        program: numbers[1],
-        op: numbers[2],
-        ticket: numbers[3],
-        topad: numbers[4],
-        toprogram: numbers[5],
-        first: numbers[6],
-        count: numbers[7],
-        rights: numbers[8],
-    }
-}
-
-fn put_answer(numbers: &mut [u16], a: Answer)
-    requires { ⌜ length (now numbers) ≡ 3 ⌝ }
+pub fn put_answer(numbers: &mut [u16], a: Answer)
+    requires { ⌜ length (now numbers) ≡ answerWidth ⌝ }
     ensures { λ _. ⌜ now (numbers .exit) ≡ answerNumbers a ⌝ }
 {
     numbers[0] = a.result;
@@ -90,7 +69,7 @@ fn serve_all(
     let mut i: usize = 0;
     while i < n {
         let from = REQUEST * i;
-        let r = request_in(&requests[from..]);
+        let r = op_form::request_in(&requests[from..]);
         let at = SHEET * i;
         let end = at + SHEET;
         let a = serve_one(tables, store, &mut sheets[at..end], r, sure);
@@ -107,7 +86,7 @@ fn lengths_ok(tables: usize, store: usize, sheets: usize, requests: usize, answe
     ensures { λ r. ⌜ r ≡ lengthsFit tables store sheets requests answers ⌝ }
 {
     let n = requests / REQUEST;
-    if tables != TABLES {
+    if tables != IMAGE {
         return false;
     }
     if store != STORE {
@@ -130,7 +109,7 @@ fn lengths_ok(tables: usize, store: usize, sheets: usize, requests: usize, answe
 
 // Is it known that the tables stay in order? For one request nobody has to know.
 fn stays_in_order(tables: &[u8], numbers: usize) -> bool
-    requires { ⌜ length (now tables) ≡ 11328 ⌝ }
+    requires { ⌜ length (now tables) ≡ imageSize ⌝ }
     ensures { λ r. ⌜ (r ≡ true → noFarChild (decode (now (tables .entry))) ≡ true) ⌝ }
 {
     if numbers <= REQUEST {

@@ -1,2 +1,1 @@
 pub mod OneRequest
-pub mod Answers

@@ -1,21 +1,20 @@
 // The routines that a host in C or Rust calls: include/dock.h declares them. Numbers pass as themselves, a slice as a pointer and then a
 // length. None asks anything of its caller beyond what a slice means: memory of that length, and no overlap.
 ghost use mathlib.Core.Path.{_≡_};
-ghost use Rattle.batch.specs.Batch.{buffersOf, Leaves};
-ghost use Rattle.dock.specs.Host.{emptyImage, EmptiesImage, stepImage, Steps, orderOf, checkImage};
+ghost use Rattle.image.specs.Layout.{imageSize};
+ghost use Rattle.lending.specs.Batch.{buffersOf, Leaves};
+ghost use Rattle.lending.specs.Host.{emptyImage, EmptiesImage, stepImage, Steps, orderOf, checkImage};
+use image::IMAGE;
+use op_form::ANSWER;
+use op_form::REQUEST;
 use tables::Name;
-
-// Bytes of the tables' image; numbers of a request.
-const TABLES: usize = 11328;
-
-const REQUEST: usize = 9;
 
 // The length that the tables' image has.
 #[no_mangle]
 pub extern "C" fn dock_tables_length() -> usize
-    ensures { λ r. ⌜ r ≡ 11328 ⌝ }
+    ensures { λ r. ⌜ r ≡ imageSize ⌝ }
 {
-    TABLES
+    IMAGE
 }
 
 // Emptying: the image becomes that of empty tables, the store zeros.
@@ -23,13 +22,7 @@ pub extern "C" fn dock_tables_length() -> usize
 pub extern "C" fn dock_empty(tables: &mut [u8], store: &mut [u8]) -> u16
     ensures { λ r. ⌜ EmptiesImage (emptyImage (now (tables .entry)) (now (store .entry))) r (now (tables .exit)) (now (store .exit)) ⌝ }
 {
-    if tables.len() != TABLES {
-        return 13;
-    }
-    let emptied = step::empty(store);
-    let t = emptied.tables;
-    image_records::tables(tables, t);
-    emptied.result
+    step::empty(tables, store)
 }
 
 // One request. The answer's first number, its result, comes back too.
@@ -46,11 +39,16 @@ pub extern "C" fn dock_step(
     if request.len() != REQUEST {
         return 13;
     }
-    let refusal = batch::serve(tables, store, sheet, request, answer);
-    if refusal != 0 {
-        return refusal;
+    if answer.len() != ANSWER {
+        return 13;
     }
-    answer[0]
+    let early = step::refusal(tables, store.len(), sheet.len());
+    if early != 0 {
+        return early;
+    }
+    let a = op_serve::request(tables, store, sheet, op_form::request_in(request));
+    batch::put_answer(answer, a);
+    a.result
 }
 
 // Requests one after the other, each as by dock_step.
@@ -79,19 +77,12 @@ pub extern "C" fn dock_check(
 ) -> u16
     ensures { λ r. ⌜ r ≡ checkImage (now (tables .entry)) pad program number sheet right ⌝ }
 {
-    if tables.len() != TABLES {
-        return 13;
-    }
-    if !order::image_in_order(tables) {
-        return 14;
-    }
     let n = Name {
         pad: pad,
         program: program,
         number: number,
     };
-    let e = image_find::entry(tables, n);
-    op_check::check(e, sheet as usize, right)
+    step::check(tables, n, sheet, right)
 }
 
 // Are the tables in order? 0, 13 or 14.
@@ -99,11 +90,5 @@ pub extern "C" fn dock_check(
 pub extern "C" fn dock_in_order(tables: &[u8]) -> u16
     ensures { λ r. ⌜ r ≡ orderOf (now (tables .entry)) ⌝ }
 {
-    if tables.len() != TABLES {
-        return 13;
-    }
-    if !order::image_in_order(tables) {
-        return 14;
-    }
-    0
+    step::in_order(tables)
 }

@@ -1,4 +1,5 @@
 pub mod State
+pub mod Numbers
 pub mod Refusal
 pub mod Operation
 pub mod Take

@@ -47,3 +47,7 @@ askedName r = nameOf (r .pad) (r .program) (r .ticket)
 
 abbrev pub asked : Tables → Request → Ticket
 asked t r = lookup t (askedName r)
+
+-- ---- what a caller lends: the tables with the store and the sheet buffer
+abbrev pub stateOf : Tables → List ℕ → List ℕ → State
+stateOf t store sheet = record { tables = t; store = store; sheet = sheet }

@@ -1,6 +1,4 @@
-// The request, the answer, and what the step hands back beside the lent store and sheet buffer. No code: the machine is defined
-// in specs/.
-use tables::Tables;
+// The machine: the request and the answer as records. No code: what a request does is defined in specs/.
 
 // Nine whole numbers, 0 to 65,535.
 pub struct Request {
@@ -20,9 +18,4 @@ pub struct Answer {
     pub result: u16,
     pub ticket: u16,
     pub recipient: u16,
-}
-
-pub struct Served {
-    pub answer: Answer,
-    pub tables: Tables,
 }

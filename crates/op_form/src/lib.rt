@@ -1,8 +1,33 @@
-// The refusals before every operation that the request alone decides: 1, 2 and 3.
+// The form of a request: read from its numbers, and the refusals before every operation that the request alone decides: 1, 2 and 3.
+ghost use Prim.Native.Nat.{_≤_};
 ghost use mathlib.Core.Path.{_≡_};
+ghost use lib.ListN.{length};
+ghost use Rattle.machine.specs.Numbers.{requestWidth, requestOf};
 ghost use Rattle.machine.specs.Operation.{fieldOk, fieldsOk};
 ghost use Rattle.op_form.specs.Early.{fieldsOf, earlyRefusal};
 use machine::Request;
+
+// Numbers of a request and of an answer.
+pub const REQUEST: usize = 9;
+
+pub const ANSWER: usize = 3;
+
+pub fn request_in(numbers: &[u16]) -> Request
+    requires { ⌜ requestWidth ≤ length (now numbers) ⌝ }
+    ensures { λ r. ⌜ r ≡ requestOf (now (numbers .entry)) ⌝ }
+{
+    Request {
+        pad: numbers[0],
+        program: numbers[1],
+        op: numbers[2],
+        ticket: numbers[3],
+        topad: numbers[4],
+        toprogram: numbers[5],
+        first: numbers[6],
+        count: numbers[7],
+        rights: numbers[8],
+    }
+}
 
 // Which fields an operation uses; the recipient is to-pad and to-program.
 pub struct Used {

@@ -4,8 +4,10 @@ ghost use Prim.Native.Nat.{_+_, _<_, _≤_};
 ghost use lib.ListN.{length, replicate};
 ghost use Rattle.machine.specs.State.{sheetAt, putSheets, clearSheets};
 
-// Bytes of a sheet.
-const SHEET: usize = 64;
+// Bytes of a sheet and of the store.
+pub const SHEET: usize = 64;
+
+pub const STORE: usize = 16384;
 
 // Every byte becomes 0.
 pub fn clear(s: &mut [u8])

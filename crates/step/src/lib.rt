@@ -1,119 +1,76 @@
-// The public routines: emptying the dock, the step that serves one request, the dock's own check. None asks anything of its caller.
+// The public routines over the tables' image, where it lies: emptying the dock, the order test, the dock's own check, and the step that
+// serves one request. None asks anything of its caller.
 ghost use mathlib.Core.Path.{_≡_};
-ghost use Rattle.tables.specs.Names.{emptyTables};
-ghost use Rattle.machine.specs.Dock.{dockCheck};
-ghost use Rattle.machine.specs.Step.{step};
-ghost use Rattle.machine.specs.Empty.{emptied};
-ghost use Rattle.op_outcome.specs.Outcomes.{stateOf, plainly};
-ghost use Rattle.op_serve.specs.Contract.{HandsBack};
-ghost use Rattle.step.specs.Contract.{Empties};
+ghost use lib.ListN.{length};
+ghost use Rattle.lending.specs.Host.{emptyImage, EmptiesImage, orderOf, checkImage, lentRefusal, stepLent, StepsLent};
+use image::IMAGE;
+use machine::Answer;
 use machine::Request;
-use machine::Served;
-use tables::Entry;
+use op_sheets::SHEET;
+use op_sheets::STORE;
 use tables::Name;
-use tables::Pad;
-use tables::Program;
-use tables::Tables;
-use tables::Ticket;
 
-// Bytes of the store, of a sheet and of the tables' image.
-const STORE: usize = 16384;
-
-const SHEET: usize = 64;
-
-const TABLES: usize = 11328;
-
-// ---- emptying
-
-fn empty_tables() -> Tables
-    ensures { λ t. ⌜ t ≡ emptyTables ⌝ }
+// Tables without tickets or entries, which are zeros, and a store of zeros; with a store of another length 13, empty tables and the store
+// untouched; with an image of another length 13, and nothing changes.
+pub fn empty(tables: &mut [u8], store: &mut [u8]) -> u16
+    ensures { λ r. ⌜ EmptiesImage (emptyImage (now (tables .entry)) (now (store .entry))) r (now (tables .exit)) (now (store .exit)) ⌝ }
 {
-    let free = Ticket::free();
-    let program = Program {
-        tickets: [free; 8],
-        last: 0,
-    };
-    let pad = Pad {
-        programs: [program; 8],
-    };
-    let none = Entry::none();
-    Tables {
-        pads: [pad; 4],
-        entries: [none; 256],
+    if tables.len() != IMAGE {
+        return 13;
     }
-}
-
-// The result, 0 or 13, and the tables.
-pub struct Emptied {
-    pub result: u16,
-    pub tables: Tables,
-}
-
-// Tables without tickets or entries, and a store of zeros; with another length 13, empty tables and the store untouched.
-pub fn empty(store: &mut [u8]) -> Emptied
-    ensures { λ d. ⌜ Empties (emptied (now (store .entry))) d (now (store .exit)) ⌝ }
-{
-    let t = empty_tables();
+    op_sheets::clear(tables);
     if store.len() != STORE {
-        return Emptied {
-            result: 13,
-            tables: t,
-        };
+        return 13;
     }
     op_sheets::clear(store);
-    Emptied {
-        result: 0,
-        tables: t,
-    }
+    0
 }
 
-// ---- the step
-
-// The tables as they came, and an answer with no new number.
-fn kept(t: Tables, result: u16) -> Served
-    ensures { λ d. ⌜ d ≡ record { answer = plainly result; tables = t } ⌝ }
+// 13 another length than an image has, 14 no tables or tables that are not in order, or 0.
+pub fn in_order(tables: &[u8]) -> u16
+    ensures { λ r. ⌜ r ≡ orderOf (now (tables .entry)) ⌝ }
 {
-    let answer = op_outcome::plain(result);
-    Served {
-        answer: answer,
-        tables: t,
+    if tables.len() != IMAGE {
+        return 13;
     }
-}
-
-// 13, 14, 1, 2, 3, then the operation. The tables are written as their image, and what the inner step leaves there is read.
-pub fn step(t: Tables, store: &mut [u8], sheet: &mut [u8], r: Request) -> Served
-    ensures { λ d. ⌜ HandsBack (step (stateOf t (now (store .entry)) (now (sheet .entry))) r) d (now (store .exit)) (now (sheet .exit)) ⌝ }
-{
-    if store.len() != STORE {
-        return kept(t, 13);
-    }
-    if sheet.len() != SHEET {
-        return kept(t, 13);
-    }
-    let mut image = [0u8; TABLES];
-    image_records::tables(&mut image, t);
-    if !order::image_in_order(&image) {
-        return kept(t, 14);
-    }
-    let answer = op_serve::request(&mut image, store, sheet, r);
-    let left = image_read::tables(&image);
-    Served {
-        answer: answer,
-        tables: left,
-    }
-}
-
-// ---- the dock's own check
-
-// 14, 3, 12, 6, 7 or 0.
-pub fn check(t: Tables, n: Name, sheet: u16, right: u16) -> u16
-    ensures { λ r. ⌜ r ≡ dockCheck t n sheet right ⌝ }
-{
-    let mut image = [0u8; TABLES];
-    image_records::tables(&mut image, t);
-    if !order::image_in_order(&image) {
+    if !order::image_in_order(tables) {
         return 14;
     }
-    let e = image_find::entry(&image, n);
+    0
+}
+
+// The dock's own check: 13, 14, 3, 12, 6, 7 or 0.
+pub fn check(tables: &[u8], n: Name, sheet: u16, right: u16) -> u16
+    ensures { λ r. ⌜ r ≡ checkImage (now (tables .entry)) (n .pad) (n .program) (n .number) sheet right ⌝ }
+{
+    let refusal = in_order(tables);
+    if refusal != 0 {
+        return refusal;
+    }
+    let e = image_find::entry(tables, n);
     op_check::check(e, sheet as usize, right)
+}
+
+// What comes before every request: 13, 14 or 0, from the image and the lengths of store and sheet buffer.
+pub fn refusal(tables: &[u8], store: usize, sheet: usize) -> u16
+    ensures { λ r. ⌜ r ≡ lentRefusal (now (tables .entry)) store sheet ⌝ }
+{
+    if store != STORE {
+        return 13;
+    }
+    if sheet != SHEET {
+        return 13;
+    }
+    in_order(tables)
+}
+
+// 13, 14, 1, 2, 3, then the operation.
+pub fn step(tables: &mut [u8], store: &mut [u8], sheet: &mut [u8], r: Request) -> Answer
+    ensures { λ a. ⌜ StepsLent (stepLent (now (tables .entry)) (now (store .entry)) (now (sheet .entry)) r) a (now (tables .exit)) (now (store .exit)) (now (sheet .exit)) ⌝ }
+{
+    let early = refusal(tables, store.len(), sheet.len());
+    if early != 0 {
+        return op_outcome::plain(early);
+    }
+    op_serve::request(tables, store, sheet, r)
 }

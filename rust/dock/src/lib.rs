@@ -9,6 +9,38 @@ pub const TABLES: usize = 11_328;
 pub const STORE: usize = 256 * SHEET;
 /// Bytes of a sheet.
 pub const SHEET: usize = 64;
+/// Numbers of a request and of an answer.
+pub const REQUEST: usize = 9;
+pub const ANSWER: usize = 3;
+/// Bytes of stack that a call may take: measured, not proved.
+pub const STACK: usize = 32_768;
+
+/// Where everything stands in the tables' image, in bytes; include/dock.h has the table.
+pub mod layout {
+    pub const PROGRAM_SIZE: usize = 194;
+    pub const TICKET_SIZE: usize = 24;
+    pub const LAST_AT: usize = 192;
+    pub const ENTRIES_AT: usize = 6208;
+    pub const ENTRY_SIZE: usize = 20;
+
+    /// In a ticket.
+    pub const TICKET_KIND_AT: usize = 0;
+    pub const TICKET_NUMBER_AT: usize = 2;
+    pub const TICKET_OWN_AT: usize = 4;
+    pub const TICKET_OTHER_AT: usize = 6;
+    pub const TICKET_FIRST_AT: usize = 12;
+    pub const TICKET_COUNT_AT: usize = 14;
+    pub const TICKET_RIGHTS_AT: usize = 16;
+    pub const TICKET_DOCK_AT: usize = 18;
+
+    /// In an entry.
+    pub const ENTRY_LIVE_AT: usize = 0;
+    pub const ENTRY_NAME_AT: usize = 2;
+    pub const ENTRY_PARENT_AT: usize = 8;
+    pub const ENTRY_FIRST_AT: usize = 14;
+    pub const ENTRY_COUNT_AT: usize = 16;
+    pub const ENTRY_RIGHTS_AT: usize = 18;
+}
 
 /// The operations of a request.
 pub const TAKE: u16 = 1;

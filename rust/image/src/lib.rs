@@ -4,29 +4,30 @@
 
 pub mod random;
 
+use dock::layout;
 use model::{Entry, Grant, Name, Sheets, Source, State, Ticket, SEATS};
 
-/// Bytes of an image.
-pub const LENGTH: usize = 11_328;
+pub use dock::TABLES as LENGTH;
 
 /// Words of a program: eight tickets, then the last number.
-const PROGRAM: usize = 97;
-const ENTRIES: usize = 3104;
+const PROGRAM: usize = layout::PROGRAM_SIZE / 2;
+const LAST: usize = layout::LAST_AT / 2;
+const ENTRIES: usize = layout::ENTRIES_AT / 2;
 /// Words of an entry.
-pub const ENTRY: usize = 10;
+pub const ENTRY: usize = layout::ENTRY_SIZE / 2;
 /// Words of a ticket.
-pub const TICKET: usize = 12;
+pub const TICKET: usize = layout::TICKET_SIZE / 2;
 pub const ENTRY_PLACES: usize = 256;
 
 /// A ticket's words. A name takes three: pad, program, number.
-pub const KIND: usize = 0;
-pub const NUMBER: usize = 1;
-pub const OWN: usize = 2;
-pub const OTHER: usize = 3;
-pub const FIRST: usize = 6;
-pub const COUNT: usize = 7;
-pub const RIGHTS: usize = 8;
-pub const DOCK: usize = 9;
+pub const KIND: usize = layout::TICKET_KIND_AT / 2;
+pub const NUMBER: usize = layout::TICKET_NUMBER_AT / 2;
+pub const OWN: usize = layout::TICKET_OWN_AT / 2;
+pub const OTHER: usize = layout::TICKET_OTHER_AT / 2;
+pub const FIRST: usize = layout::TICKET_FIRST_AT / 2;
+pub const COUNT: usize = layout::TICKET_COUNT_AT / 2;
+pub const RIGHTS: usize = layout::TICKET_RIGHTS_AT / 2;
+pub const DOCK: usize = layout::TICKET_DOCK_AT / 2;
 
 /// A ticket's kinds.
 pub const FREE: u16 = 0;
@@ -36,12 +37,12 @@ pub const CHILD: u16 = 3;
 pub const RECALL: u16 = 4;
 
 /// An entry's words. A parent with the number 0 is the store.
-pub const LIVE: usize = 0;
-pub const NAME: usize = 1;
-pub const PARENT: usize = 4;
-pub const ENTRY_FIRST: usize = 7;
-pub const ENTRY_COUNT: usize = 8;
-pub const ENTRY_RIGHTS: usize = 9;
+pub const LIVE: usize = layout::ENTRY_LIVE_AT / 2;
+pub const NAME: usize = layout::ENTRY_NAME_AT / 2;
+pub const PARENT: usize = layout::ENTRY_PARENT_AT / 2;
+pub const ENTRY_FIRST: usize = layout::ENTRY_FIRST_AT / 2;
+pub const ENTRY_COUNT: usize = layout::ENTRY_COUNT_AT / 2;
+pub const ENTRY_RIGHTS: usize = layout::ENTRY_RIGHTS_AT / 2;
 
 /// The first word of a ticket's place.
 pub fn ticket_at(seat: usize, place: usize) -> usize {
@@ -50,7 +51,7 @@ pub fn ticket_at(seat: usize, place: usize) -> usize {
 
 /// The word of a program's last number.
 pub fn last_at(seat: usize) -> usize {
-    PROGRAM * seat + PROGRAM - 1
+    PROGRAM * seat + LAST
 }
 
 /// The first word of an entry's place.

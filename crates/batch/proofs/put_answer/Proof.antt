@@ -1,6 +1,6 @@
 use borrow.Author.Needs.{needs}
-use Rattle.batch.specs.Numbers.{answerNumbers}
-use Rattle.batch.proofs.Numbers.{three-stored}
+use Rattle.machine.specs.Numbers.{answerNumbers}
+use Rattle.batch.proofs.Numbers.{all-stored}
 use Rattle.batch.proofs.put_answer.Statement.{statement}
 use Rattle.batch.proofs.put_answer.Tie as tie
 
@@ -18,7 +18,7 @@ same-length c = search needs
 
 returns : tie.Need-returns
 unfolding answerNumbers
-returns c = three-stored (c .args .numbers .now) _ _ _ (c .pre)
+returns c = all-stored (c .args .numbers .now) _ _ _ (c .pre)
 
 pub put-answer-spec : {M : Type 1} → statement M
 put-answer-spec =

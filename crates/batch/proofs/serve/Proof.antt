@@ -2,7 +2,7 @@
 use mathlib.Core.Path.{_≡_}
 use mathlib.Core.Bool.{true}
 use borrow.Author.Needs.{needs}
-use Rattle.batch.specs.Batch.{lengthsOk, buffersOf}
+use Rattle.lending.specs.Batch.{buffersFit, buffersOf}
 use Rattle.batch.proofs.Refusals.{passed, failed, whole, image-whole, leaves-13, leaves-14, leaves-0, tables-bad, tables-ok, is-image, is-in-order}
 use Rattle.batch.proofs.serve.Statement.{statement}
 use Rattle.batch.proofs.serve.Tie as tie
@@ -22,7 +22,7 @@ image-in-order-requires c κs =
     let c8 = c .before .before .before .before .before .before .before .before in
     let a = c8 .args in
     let b = buffersOf (a .tables .now) (a .store .now) (a .sheets .now) (a .requests .now) (a .answers .now) in
-    let fits : lengthsOk b ≡ true = passed (c .before .before .lengths-ok .ensures) (c .before .if1 .left) in
+    let fits : buffersFit b ≡ true = passed (c .before .before .lengths-ok .ensures) (c .before .if1 .left) in
     image-whole b fits
 
 same-length : tie.Need-same-length
@@ -35,7 +35,7 @@ returns-2 c =
     let c10 = c4 .before .before .before .before .before .before in
     let a = c10 .args in
     let b = buffersOf (a .tables .now) (a .store .now) (a .sheets .now) (a .requests .now) (a .answers .now) in
-    let fits : lengthsOk b ≡ true = passed (c4 .lengths-ok .ensures) (c3 .if1 .left) in
+    let fits : buffersFit b ≡ true = passed (c4 .lengths-ok .ensures) (c3 .if1 .left) in
     leaves-14 b fits (tables-bad (a .tables .now) (c .before .image-in-order .ensures) (c .if2 .taken))
 
 stays-in-order-requires : tie.Need-stays-in-order-requires
@@ -45,7 +45,7 @@ stays-in-order-requires c κs =
     let c11 = c5 .before .before .before .before .before .before in
     let a = c11 .args in
     let b = buffersOf (a .tables .now) (a .store .now) (a .sheets .now) (a .requests .now) (a .answers .now) in
-    let fits : lengthsOk b ≡ true = passed (c5 .lengths-ok .ensures) (c4 .if1 .left) in
+    let fits : buffersFit b ≡ true = passed (c5 .lengths-ok .ensures) (c4 .if1 .left) in
     image-whole b fits
 
 serve-all-requires : tie.Need-serve-all-requires
@@ -58,7 +58,7 @@ serve-all-requires c κs =
     let c16 = c10 .before .before .before .before .before .before in
     let a = c16 .args in
     let b = buffersOf (a .tables .now) (a .store .now) (a .sheets .now) (a .requests .now) (a .answers .now) in
-    let fits : lengthsOk b ≡ true = passed (c10 .lengths-ok .ensures) (c9 .if1 .left) in (
+    let fits : buffersFit b ≡ true = passed (c10 .lengths-ok .ensures) (c9 .if1 .left) in (
       is-image (a .tables .now) (c7 .image-in-order .ensures) (c6 .if2 .left),
       (whole b fits, (is-in-order (a .tables .now) (c7 .image-in-order .ensures) (c6 .if2 .left), c4 .stays-in-order .ensures)),
     )
@@ -85,7 +85,7 @@ returns-3 c =
     let c25 = c19 .before .before .before .before .before .before in
     let a = c25 .args in
     let b = buffersOf (a .tables .now) (a .store .now) (a .sheets .now) (a .requests .now) (a .answers .now) in
-    let fits : lengthsOk b ≡ true = passed (c19 .lengths-ok .ensures) (c18 .if1 .left) in
+    let fits : buffersFit b ≡ true = passed (c19 .lengths-ok .ensures) (c18 .if1 .left) in
     leaves-0 b fits (tables-ok (a .tables .now) (c16 .image-in-order .ensures) (c15 .if2 .left)) _ _ _ _ (c8 .serve-all .ensures)
 
 pub serve-spec : {M : Type 1} → statement M

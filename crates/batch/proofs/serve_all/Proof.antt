@@ -5,10 +5,11 @@ use mathlib.Core.Path.{sym, ap, _∙_}
 use lib.ListN.{length-take, length-drop}
 use borrow.Author.Needs.{needs}
 use Rattle.lists.proofs.Front.{rest-part}
+use Rattle.machine.specs.Numbers.{requestWidth, requestOf, answerWidth}
 use Rattle.image.specs.Image.{decode}
 use Rattle.image.proofs.RoundTrip.{image-whole}
-use Rattle.batch.specs.Sequence.{startWith}
-use Rattle.batch.specs.Numbers.{requestIn, countOf}
+use Rattle.lending.specs.Sequence.{startWith}
+use Rattle.lending.specs.Numbers.{countOf}
 use Rattle.batch.proofs.Steps.{Going, begins, still-image, next, ends}
 use Rattle.batch.proofs.serve_all.Statement.{statement}
 use Rattle.batch.proofs.serve_all.Tie as tie
@@ -131,8 +132,8 @@ loop-again c =
     let a = c23 .args in
     let i = c17 .loop .i in
     next _ _ _ _ _ _ _ _ _ _ (c17 .loop .inv) (64 * i + 64 - 64 * i) (omega arith) _
-    (c14 .request-in .ensures ∙ ap requestIn (rest-part (a .requests .now) (9 * i))) (c10 .serve-one .result) _ _ _ (c10 .serve-one .ensures)
-    (3 * i + 3 - 3 * i) _ (c10 .serve-one .kept .1 .0 ∙ c17 .loop .inv .long)
+    (c14 .request-in .ensures ∙ ap requestOf (rest-part (a .requests .now) (requestWidth * i))) (c10 .serve-one .result) _ _ _ (c10 .serve-one .ensures)
+    (answerWidth * i + answerWidth - answerWidth * i) _ (c10 .serve-one .kept .1 .0 ∙ c17 .loop .inv .long)
     (c10 .serve-one .kept .1 .1 .0 ∙ simp (length-take, length-drop) (omega (arith, c17 .loop .inv .sheets .size, c23 .pre .1 .0 .sheets, c16 .loop-test .taken)))
     (c16 .loop-test .taken) (c23 .pre .1 .0 .sheets) (c23 .pre .1 .0 .answers) (omega arith)
     (c .before .before .put-answer .ensures)

@@ -1,9 +1,10 @@
 -- Tables that are known to be in order need no test: past 13 and 14 the step is serving.
 use native.Mathlib.Omega.{arith}
 use borrow.Author.Needs.{needs}
+use Rattle.machine.specs.State.{refused}
 use Rattle.image.specs.Image.{decode}
-use Rattle.step.proofs.Parts.{not-in-order, is-served}
 use Rattle.image.proofs.RoundTrip.{image-whole}
+use Rattle.lending.proofs.Served.{not-in-order, is-served}
 use Rattle.op_serve.proofs.Parts.{left-alone, same-outcome}
 use Rattle.batch.proofs.Refusals.{out-of-order, is-in-order}
 use Rattle.batch.proofs.serve_one.Statement.{statement}
@@ -44,6 +45,7 @@ same-length-4 : tie.Need-same-length-4
 same-length-4 c = search needs
 
 returns-2 : tie.Need-returns-2
+unfolding refused
 returns-2 c =
     let c7 = c .before .before .before .before .before .before .before in
     let c8 = c7 .before in

@@ -1,23 +1,49 @@
--- A batch of one request, whose result is the first number of its answer.
-use native.Mathlib.Omega.{arith}
+-- The lengths of request and answer, then 13 and 14, then the request is served and its answer written.
+use mathlib.Core.Path.{sym, _∙_}
 use borrow.Author.Needs.{needs}
-use Rattle.batch.specs.Batch.{buffersOf}
-use Rattle.dock.proofs.OneRequest.{other-request, refused-alike, served-alike, whole-answer}
+use Rattle.lending.specs.Batch.{buffersOf}
+use Rattle.lending.proofs.Refusals.{tables-image, tables-order, not-refused}
+use Rattle.dock.proofs.OneRequest.{other-request, other-answer, before-it, served}
 use Rattle.dock.proofs.dock_step.Statement.{statement}
 use Rattle.dock.proofs.dock_step.Tie as tie
 
 returns : tie.Need-returns
 returns c =
-    let c6 = c .before .before .before .before .before .before in
-    let a = c6 .args in
-    let b = buffersOf (a .tables .now) (a .store .now) (a .sheet .now) (a .request .now) (a .answer .now) in
-    other-request b (c .if1 .taken)
+    let a = c .before .before .before .before .before .before .args in
+    other-request (buffersOf (a .tables .now) (a .store .now) (a .sheet .now) (a .request .now) (a .answer .now)) (c .if1 .taken)
 
-serve-requires : tie.Need-serve-requires
-serve-requires c κs = search needs
+returns-2 : tie.Need-returns-2
+returns-2 c =
+    let a = c .before .before .before .before .before .before .before .args in
+    other-answer (buffersOf (a .tables .now) (a .store .now) (a .sheet .now) (a .request .now) (a .answer .now)) (c .if2 .taken)
+
+refusal-requires : tie.Need-refusal-requires
+refusal-requires c κs = search needs
 
 same-length : tie.Need-same-length
 same-length c = search needs
+
+returns-3 : tie.Need-returns-3
+returns-3 c =
+    let a = c .before .before .before .before .before .before .before .before .before .before .args in
+    before-it (buffersOf (a .tables .now) (a .store .now) (a .sheet .now) (a .request .now) (a .answer .now)) (c .before .before .before .before .if1 .left) (c .before .before .before .if2 .left)
+    (c .before .refusal .ensures) (c .if3 .taken)
+
+request-in-requires : tie.Need-request-in-requires
+request-in-requires c κs = search needs
+
+request-requires : tie.Need-request-requires
+request-requires c κs =
+    let a = c .before .before .before .before .before .before .before .before .before .before .before .before .before .before .args in
+    let whole = not-refused (a .tables .now) _ _ (sym (c .before .before .before .before .before .refusal .ensures) ∙ c .before .before .before .before .if3 .left) in
+    record {
+      is = tables-image (a .tables .now) (whole .tables);
+      order = tables-order (a .tables .now) (whole .tables);
+      lengths = record { store = whole .store-long; sheet = whole .sheet-long };
+    }
+
+put-answer-requires : tie.Need-put-answer-requires
+put-answer-requires c κs = search needs
 
 same-length-2 : tie.Need-same-length-2
 same-length-2 c = search needs
@@ -28,63 +54,29 @@ same-length-3 c = search needs
 same-length-4 : tie.Need-same-length-4
 same-length-4 c = search needs
 
-returns-2 : tie.Need-returns-2
-returns-2 c =
-    let c9 = c .before .before .before .before .before .before .before .before .before in
-    let c14 = c9 .before .before .before .before .before in
-    let c20 = c14 .before .before .before .before .before .before in
-    let a = c20 .args in
-    let b = buffersOf (a .tables .now) (a .store .now) (a .sheet .now) (a .request .now) (a .answer .now) in
-    refused-alike b (c14 .if1 .left) _ _ _ _ _ (c9 .serve .ensures) (c .if2 .taken)
-
-slice-read-result : tie.Need-slice-read-result
-slice-read-result c =
-    let c10 = c .before .before .before .before .before .before .before .before .before .before in
-    let c15 = c10 .before .before .before .before .before in
-    let c21 = c15 .before .before .before .before .before .before in
-    let a = c21 .args in
-    let b = buffersOf (a .tables .now) (a .store .now) (a .sheet .now) (a .request .now) (a .answer .now) in
-    omega (
-      arith,
-      c10 .serve .kept .1 .1 .1 .1 .0,
-      whole-answer b (c15 .if1 .left) _ _ _ _ _ (c10 .serve .ensures) (c .before .if2 .left),
-    )
-
 same-length-5 : tie.Need-same-length-5
 same-length-5 c = search needs
 
-same-length-6 : tie.Need-same-length-6
-same-length-6 c = search needs
-
-same-length-7 : tie.Need-same-length-7
-same-length-7 c = search needs
-
-same-length-8 : tie.Need-same-length-8
-same-length-8 c = search needs
-
-returns-3 : tie.Need-returns-3
-returns-3 c =
-    let c10 = c .before .before .before .before .before .before .before .before .before .before in
-    let c15 = c10 .before .before .before .before .before in
-    let c21 = c15 .before .before .before .before .before .before in
-    let a = c21 .args in
-    let b = buffersOf (a .tables .now) (a .store .now) (a .sheet .now) (a .request .now) (a .answer .now) in
-    served-alike b (c15 .if1 .left) _ _ _ _ _ (c10 .serve .ensures) (c .before .if2 .left)
+returns-4 : tie.Need-returns-4
+returns-4 c =
+    let a = c .before .before .before .before .before .before .before .before .before .before .before .before .before .before .before .before .before .before .before .before .before .before .before .before .before .args in
+    served (buffersOf (a .tables .now) (a .store .now) (a .sheet .now) (a .request .now) (a .answer .now)) (c .before .before .before .before .before .before .before .before .before .before .before .before .before .before .before .before .before .before .before .if1 .left) (c .before .before .before .before .before .before .before .before .before .before .before .before .before .before .before .before .before .before .if2 .left)
+    (sym (c .before .before .before .before .before .before .before .before .before .before .before .before .before .before .before .before .refusal .ensures) ∙ c .before .before .before .before .before .before .before .before .before .before .before .before .before .before .before .if3 .left) _ (c .before .before .before .before .before .before .before .before .before .before .before .request-in .ensures) (c .before .before .before .before .before .before .before .before .before .before .request .result) _ _ _ (c .before .before .before .before .before .before .before .before .before .before .request .ensures) (c .before .before .put-answer .ensures)
 
 pub dock-step-spec : {M : Type 1} → statement M
 dock-step-spec =
     tie.close
     (tie.spec
     returns
-    serve-requires
+    returns-2
+    refusal-requires
     same-length
+    returns-3
+    request-in-requires
+    request-requires
+    put-answer-requires
     same-length-2
     same-length-3
     same-length-4
-    returns-2
-    slice-read-result
     same-length-5
-    same-length-6
-    same-length-7
-    same-length-8
-    returns-3)
+    returns-4)

@@ -6,12 +6,14 @@ use mathlib.Core.List.{List}
 use lib.Dec.{eqb}
 use lib.ListN.{length}
 use Rattle.tables.specs.Order.{inOrder}
+use Rattle.machine.specs.Numbers.{requestWidth, answerWidth}
 use Rattle.machine.specs.Refusal.{_when_else_}
+use Rattle.image.specs.Layout.{imageSize}
 use Rattle.image.specs.Image.{encode, decode, isImage}
-use Rattle.batch.specs.Numbers.{countOf}
-use Rattle.batch.specs.Sequence.{Start, met, sheetsOf, answersOf}
+use Rattle.lending.specs.Numbers.{countOf}
+use Rattle.lending.specs.Sequence.{Start, met, sheetsOf, answersOf}
 
--- n requests: 64 n bytes of sheets, 9 n numbers of requests, 3 n of answers
+-- for n requests: n sheets, the numbers of n requests and of n answers
 pub record Buffers : Type 0 where
   pub tables : List ℕ
   pub store : List ℕ
@@ -23,11 +25,11 @@ pub record Buffers : Type 0 where
 -- the lengths go with one number of requests
 unfoldable pub lengthsFit : ℕ → ℕ → ℕ → ℕ → ℕ → Bool
 lengthsFit tables store sheets requests answers =
-    let n = requests / 9 in
-    eqb tables 11328 && eqb store 16384 && eqb sheets (64 * n) && eqb requests (9 * n) && eqb answers (3 * n)
+    let n = requests / requestWidth in
+    eqb tables imageSize && eqb store 16384 && eqb sheets (64 * n) && eqb requests (requestWidth * n) && eqb answers (answerWidth * n)
 
-abbrev pub lengthsOk : Buffers → Bool
-lengthsOk b = lengthsFit (length (b .tables)) (length (b .store)) (length (b .sheets)) (length (b .requests)) (length (b .answers))
+abbrev pub buffersFit : Buffers → Bool
+buffersFit b = lengthsFit (length (b .tables)) (length (b .store)) (length (b .sheets)) (length (b .requests)) (length (b .answers))
 
 -- the bytes are an image, and its tables are in order
 unfoldable pub tablesOk : List ℕ → Bool
@@ -37,7 +39,7 @@ tablesOk bytes = let order = inOrder (decode bytes) in isImage bytes && order
 unfoldable pub batchRefusal : Buffers → ℕ
 batchRefusal b =
     let order = tablesOk (b .tables) in
-    13 when not (lengthsOk b) else
+    13 when not (buffersFit b) else
     14 when not order else
     0
 

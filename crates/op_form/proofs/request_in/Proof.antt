@@ -1,8 +1,7 @@
 use mathlib.Core.Path.{refl}
 use borrow.Author.Needs.{needs}
-use Rattle.batch.specs.Numbers.{requestIn}
-use Rattle.batch.proofs.request_in.Statement.{statement}
-use Rattle.batch.proofs.request_in.Tie as tie
+use Rattle.op_form.proofs.request_in.Statement.{statement}
+use Rattle.op_form.proofs.request_in.Tie as tie
 
 shared-slice-read-t3 : tie.Need-shared-slice-read-t3
 shared-slice-read-t3 c = search needs
@@ -32,7 +31,6 @@ shared-slice-read-t19 : tie.Need-shared-slice-read-t19
 shared-slice-read-t19 c = search needs
 
 returns : tie.Need-returns
-unfolding requestIn
 returns c = refl
 
 pub request-in-spec : {M : Type 1} → statement M

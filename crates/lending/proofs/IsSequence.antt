@@ -8,8 +8,8 @@ use Rattle.lists.specs.Parts.{joined}
 use Rattle.machine.specs.State.{State, sheetAt}
 use Rattle.machine.specs.Step.{step}
 use Rattle.machine.specs.Sequence.{Sent, enter, after}
-use Rattle.batch.specs.Numbers.{requestAt}
-use Rattle.batch.specs.Sequence.{Start, met, outcomeAt}
+use Rattle.lending.specs.Numbers.{requestAt}
+use Rattle.lending.specs.Sequence.{Start, met, outcomeAt}
 
 after-last : (s : State) (is : List Sent) (i : Sent) → after s (is ++ i ∷ []) ≡ step (enter (after s is) i) (i .request) .state
 unfolding after

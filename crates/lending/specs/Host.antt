@@ -8,15 +8,16 @@ use mathlib.Core.List.{List}
 use lib.Dec.{eqb}
 use lib.ListN.{length}
 use Rattle.tables.specs.Names.{nameOf}
-use Rattle.machine.specs.State.{Outcome}
+use Rattle.machine.specs.declared.{Request.Request, Answer.Answer}
+use Rattle.machine.specs.State.{Outcome, answerOf, stateOf}
+use Rattle.machine.specs.Numbers.{requestWidth, requestOf, answerWidth, answerNumbers}
 use Rattle.machine.specs.Refusal.{_when_else_}
 use Rattle.machine.specs.Dock.{dockCheck}
 use Rattle.machine.specs.Step.{step}
 use Rattle.machine.specs.Empty.{emptied}
-use Rattle.op_outcome.specs.Outcomes.{stateOf}
+use Rattle.image.specs.Layout.{imageSize}
 use Rattle.image.specs.Image.{encode, decode, isImage}
-use Rattle.batch.specs.Numbers.{requestIn, answerNumbers}
-use Rattle.batch.specs.Batch.{Buffers, Left, tablesOk, untouched}
+use Rattle.lending.specs.Batch.{Buffers, Left, tablesOk, untouched}
 
 -- ---- emptying
 pub record EmptiedImage : Type 0 where
@@ -29,7 +30,7 @@ emptyImage tables store =
     let e = emptied store in
     let empty : EmptiedImage = record { result = e .result; tables = encode (e .tables); store = e .store } in
     let refused : EmptiedImage = record { result = 13; tables = tables; store = store } in
-    cond (eqb (length tables) 11328) empty refused
+    cond (eqb (length tables) imageSize) empty refused
 
 pub record EmptiesImage (e : EmptiedImage) (result′ : ℕ) (tables′ store′ : List ℕ) : Type 0 where
   pub result : result′ ≡ e .result
@@ -40,14 +41,14 @@ pub record EmptiesImage (e : EmptiedImage) (result′ : ℕ) (tables′ store′
 unfoldable pub stepRefusal : Buffers → ℕ
 stepRefusal b =
     let order = tablesOk (b .tables) in
-    13 when not (eqb (length (b .tables)) 11328 && eqb (length (b .store)) 16384 && eqb (length (b .sheets)) 64
-    && eqb (length (b .requests)) 9 && eqb (length (b .answers)) 3) else
+    13 when not (eqb (length (b .tables)) imageSize && eqb (length (b .store)) 16384 && eqb (length (b .sheets)) 64
+    && eqb (length (b .requests)) requestWidth && eqb (length (b .answers)) answerWidth) else
     14 when not order else
     0
 
 -- the step on the tables that the image says; its outcome, with the tables as their image
 unfoldable pub stepOutcome : Buffers → Outcome
-stepOutcome b = step (stateOf (decode (b .tables)) (b .store) (b .sheets)) (requestIn (b .requests))
+stepOutcome b = step (stateOf (decode (b .tables)) (b .store) (b .sheets)) (requestOf (b .requests))
 
 unfoldable pub leftBy : Outcome → Left
 leftBy o = record {
@@ -72,17 +73,48 @@ pub record Steps (l : Left) (result′ : ℕ) (tables′ store′ sheet′ answe
   pub sheet : sheet′ ≡ l .sheets
   pub answer : answer′ ≡ l .answers
 
+-- ---- one request as a caller in Rattle has it: a record in, a record out
+unfoldable pub lentRefusal : List ℕ → ℕ → ℕ → ℕ
+lentRefusal tables store sheet =
+    let order = tablesOk tables in
+    13 when not (eqb (length tables) imageSize && eqb store 16384 && eqb sheet 64) else
+    14 when not order else
+    0
+
+pub record Stepped : Type 0 where
+  pub answer : Answer
+  pub tables : List ℕ
+  pub store : List ℕ
+  pub sheet : List ℕ
+
+unfoldable pub steppedBy : Outcome → Stepped
+steppedBy o = record { answer = o .answer; tables = encode (o .state .tables); store = o .state .store; sheet = o .state .sheet }
+
+-- 13 and 14 change nothing
+unfoldable pub stepLent : List ℕ → List ℕ → List ℕ → Request → Stepped
+stepLent tables store sheet r =
+    let refusal = lentRefusal tables (length store) (length sheet) in
+    let served = steppedBy (step (stateOf (decode tables) store sheet) r) in
+    let refused : Stepped = record { answer = answerOf refusal 0 0; tables = tables; store = store; sheet = sheet } in
+    cond (eqb refusal 0) served refused
+
+pub record StepsLent (s : Stepped) (a : Answer) (tables′ store′ sheet′ : List ℕ) : Type 0 where
+  pub answer : a ≡ s .answer
+  pub tables : tables′ ≡ s .tables
+  pub store : store′ ≡ s .store
+  pub sheet : sheet′ ≡ s .sheet
+
 -- ---- the order test and the dock's own check
 unfoldable pub orderOf : List ℕ → ℕ
 orderOf tables =
     let order = tablesOk tables in
-    13 when not (eqb (length tables) 11328) else
+    13 when not (eqb (length tables) imageSize) else
     14 when not order else
     0
 
 unfoldable pub checkImage : List ℕ → ℕ → ℕ → ℕ → ℕ → ℕ → ℕ
 checkImage tables pad program number sheet right =
     let later = dockCheck (decode tables) (nameOf pad program number) sheet right in
-    13 when not (eqb (length tables) 11328) else
+    13 when not (eqb (length tables) imageSize) else
     14 when not (isImage tables) else
     later

@@ -1,3 +1,4 @@
 pub mod Numbers
 pub mod Sequence
 pub mod Batch
+pub mod Host

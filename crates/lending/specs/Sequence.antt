@@ -6,11 +6,11 @@ use mathlib.Core.List.{List}
 use lib.ListN.{length}
 use Rattle.lists.specs.Parts.{joined}
 use Rattle.tables.specs.declared.Tables.{Tables}
-use Rattle.machine.specs.State.{State, Outcome, sheetAt}
+use Rattle.machine.specs.State.{State, Outcome, sheetAt, stateOf}
+use Rattle.machine.specs.Numbers.{requestWidth, answerWidth, answerNumbers}
 use Rattle.machine.specs.Step.{step}
 use Rattle.image.specs.Image.{encode, decode}
-use Rattle.op_outcome.specs.Outcomes.{stateOf}
-use Rattle.batch.specs.Numbers.{requestAt, answerNumbers}
+use Rattle.lending.specs.Numbers.{requestAt}
 
 -- what the first request meets, and all that is sent: the requests' numbers, and a sheet buffer of 64 bytes for each
 pub record Start : Type 0 where
@@ -45,8 +45,8 @@ startWith tables store sheets requests = record { tables = tables; store = store
 pub record Whole (n : ℕ) (store′ sheets′ requests′ answers′ : List ℕ) : Type 0 where
   pub store : length store′ ≡ 16384
   pub sheets : length sheets′ ≡ 64 * n
-  pub requests : length requests′ ≡ 9 * n
-  pub answers : length answers′ ≡ 3 * n
+  pub requests : length requests′ ≡ requestWidth * n
+  pub answers : length answers′ ≡ answerWidth * n
 
 -- what n requests leave, field by field, the tables as their image
 pub record AllServed (b : Start) (n : ℕ) (tables′ store′ sheets′ answers′ : List ℕ) : Type 0 where
