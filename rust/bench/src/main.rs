@@ -8,7 +8,7 @@
 //! run pays for fresh memory. A trace is made once, from the model, and its mix keeps the tables about as
 //! full as they were: mostly reads and writes, some passes, recalls, takes and give backs, some refused.
 
-use dock::raw;
+use dock::{raw, ANSWER, REQUEST};
 use image::random::Rng;
 use model::{Answer, Name, Request, Source, State, Ticket, PASS_ON, SEATS, SHEET, STORE};
 use std::{env, process::ExitCode, time::Instant};
@@ -208,7 +208,8 @@ fn time(trace: &Trace) -> Figures {
     let single = best(n, &mut buffers, reset, |b| {
         for at in 0..n {
             let sheet = &mut b.sheets[SHEET * at..SHEET * (at + 1)];
-            let (request, answer) = (&b.numbers[9 * at..9 * at + 9], &mut b.answers[3 * at..3 * at + 3]);
+            let (request, answer) =
+                (&b.numbers[REQUEST * at..][..REQUEST], &mut b.answers[ANSWER * at..][..ANSWER]);
             raw::step(&mut b.tables, &mut b.store, sheet, request, answer);
         }
     });
@@ -217,7 +218,8 @@ fn time(trace: &Trace) -> Figures {
         for from in (0..n).step_by(BATCH) {
             let to = n.min(from + BATCH);
             let sheets = &mut b.sheets[SHEET * from..SHEET * to];
-            let (requests, answers) = (&b.numbers[9 * from..9 * to], &mut b.answers[3 * from..3 * to]);
+            let (requests, answers) =
+                (&b.numbers[REQUEST * from..REQUEST * to], &mut b.answers[ANSWER * from..ANSWER * to]);
             raw::serve(&mut b.tables, &mut b.store, sheets, requests, answers);
         }
     });

@@ -5,7 +5,7 @@
 mod damage;
 mod requests;
 
-use dock::raw;
+use dock::{raw, ANSWER, REQUEST};
 use image::random::Rng;
 use image::View;
 use model::{Answer, Name, Request, State, SEATS, SHEET, STORE};
@@ -13,7 +13,7 @@ use requests::Asker;
 use std::{env, process::ExitCode};
 
 /// What the answer buffer holds before a call, to see that 13 and 14 write nothing.
-const UNWRITTEN: [u16; 3] = [0xa5a5; 3];
+const UNWRITTEN: [u16; ANSWER] = [0xa5a5; ANSWER];
 
 /// Both sides: the library's tables and store, the model's (no tables where the bytes are none).
 struct Sides {
@@ -36,10 +36,10 @@ struct Counts {
 
 /// A request that was served, for the batch that plays it again.
 struct Served {
-    request: [u16; 9],
+    request: [u16; REQUEST],
     before: [u8; SHEET],
     after: [u8; SHEET],
-    answer: [u16; 3],
+    answer: [u16; ANSWER],
 }
 
 fn differ<T: PartialEq + std::fmt::Debug>(what: &str, library: &[T], wanted: &[T]) -> Result<(), String> {
@@ -158,7 +158,7 @@ impl Sides {
         }
         let lengths = [bytes[0].len(), bytes[1].len(), bytes[2].len(), words[0].len(), words[1].len()];
         let n = if batch { words[1].len() / 3 } else { 1 };
-        if lengths == [self.tables.len(), STORE, SHEET * n, 9 * n, 3 * n] {
+        if lengths == [self.tables.len(), STORE, SHEET * n, REQUEST * n, ANSWER * n] {
             bytes[0].pop();
         }
         let (old_bytes, old_words) = (bytes.clone(), words.clone());

@@ -290,13 +290,13 @@ mod ffi {
     /// The numbers of requests, nine for each.
     pub fn requests(requests: &[Request]) -> &[u16] {
         // SAFETY: a `Request` is nine u16 in C's layout, without padding.
-        unsafe { from_raw_parts(requests.as_ptr().cast(), requests.len() * 9) }
+        unsafe { from_raw_parts(requests.as_ptr().cast(), requests.len() * super::REQUEST) }
     }
 
     /// The numbers of answers, three for each.
     pub fn answers(answers: &mut [Answer]) -> &mut [u16] {
         // SAFETY: an `Answer` is three u16 in C's layout, without padding, and any u16 is one of its numbers.
-        unsafe { from_raw_parts_mut(answers.as_mut_ptr().cast(), answers.len() * 3) }
+        unsafe { from_raw_parts_mut(answers.as_mut_ptr().cast(), answers.len() * super::ANSWER) }
     }
 
     extern "C" {

@@ -20,6 +20,9 @@ pub const SHEET: usize = 64;
 /// Bytes of the store.
 pub const STORE: usize = SHEETS * SHEET;
 
+/// Numbers of a request.
+pub const NUMBERS: usize = 9;
+
 pub const READ: u16 = 1;
 pub const WRITE: u16 = 2;
 pub const PASS_ON: u16 = 4;
@@ -141,14 +144,14 @@ impl Request {
     }
 
     /// The nine numbers.
-    pub fn numbers(&self) -> [u16; 9] {
+    pub fn numbers(&self) -> [u16; NUMBERS] {
         let Request { pad, program, op, ticket, topad, toprogram, first, count, rights } = *self;
         [pad, program, op, ticket, topad, toprogram, first, count, rights]
     }
 }
 
-impl From<[u16; 9]> for Request {
-    fn from(n: [u16; 9]) -> Self {
+impl From<[u16; NUMBERS]> for Request {
+    fn from(n: [u16; NUMBERS]) -> Self {
         let [pad, program, op, ticket, topad, toprogram, first, count, rights] = n;
         Request { pad, program, op, ticket, topad, toprogram, first, count, rights }
     }

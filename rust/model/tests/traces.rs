@@ -1,7 +1,7 @@
 //! The model plays the stored traces: every NAME.in of the folder must give NAME.out, byte for byte.
 //! CASES names another folder.
 
-use model::{Request, State, SHEET, STORE};
+use model::{Request, State, NUMBERS, SHEET, STORE};
 use std::{env, fs, path::PathBuf};
 
 const NAMES_IN: &str = "pad program op ticket topad toprogram first count rights fill";
@@ -20,9 +20,9 @@ fn value(text: &[u8]) -> Option<u16> {
 /// A line's request and fill, or nothing where the line has another form.
 fn request(line: &[u8]) -> Option<(Request, u8)> {
     let values: Vec<u16> = line.split(|&byte| byte == b' ').map(value).collect::<Option<_>>()?;
-    let values: [u16; 10] = values.try_into().ok()?;
-    let numbers: [u16; 9] = values[..9].try_into().ok()?;
-    let (request, fill) = (Request::from(numbers), u8::try_from(values[9]).ok()?);
+    let values: [u16; NUMBERS + 1] = values.try_into().ok()?;
+    let numbers: [u16; NUMBERS] = values[..NUMBERS].try_into().ok()?;
+    let (request, fill) = (Request::from(numbers), u8::try_from(values[NUMBERS]).ok()?);
     (fill == 0 || request.op == 6).then_some((request, fill))
 }
 
@@ -55,7 +55,7 @@ fn trace(input: &[u8]) -> String {
 #[test]
 fn stored_traces() {
     let folder = env::var_os("CASES").map_or_else(
-        || PathBuf::from(env!("CARGO_MANIFEST_DIR")).join("../../crates/cases/data"),
+        || PathBuf::from(env!("CARGO_MANIFEST_DIR")).join("../../crates/test_cases/data"),
         PathBuf::from,
     );
     let files =
