@@ -1,16 +1,31 @@
 // The tables read from their image by place: a ticket, a last number, a program, an entry.
-ghost use Prim.Native.Nat.{_+_, _<_, _≤_};
+ghost use Prim.Native.Nat.{_+_, _*_, _<_, _≤_};
 ghost use mathlib.Core.Path.{_≡_};
-ghost use lib.ListN.{length, getD};
+ghost use lib.ListN.{length, getD, drop};
 ghost use Rattle.image.specs.Layout.{ticketSize, programSize, entrySize, imageSize};
 ghost use Rattle.image.specs.Numbers.{numberAt};
 ghost use Rattle.tables.specs.Names.{free, noEntry};
 ghost use Rattle.image.specs.Image.{kindOf, nameAt, readTicket, readProgram, readEntry, ticketStart, entryStart};
 ghost use Rattle.image_read.specs.Places.{ticketsIn, lastsIn, entriesIn};
-use image::{
-    ENTRIES, ENTRY, ENTRY_COUNT, ENTRY_FIRST, ENTRY_LIVE, ENTRY_NAME, ENTRY_PARENT, ENTRY_RIGHTS, PROGRAM, PROGRAM_LAST,
-    TICKET, TICKET_COUNT, TICKET_DOCK, TICKET_FIRST, TICKET_KIND, TICKET_NUMBER, TICKET_OTHER, TICKET_OWN, TICKET_RIGHTS,
-};
+use image::ENTRIES;
+use image::ENTRY;
+use image::ENTRY_COUNT;
+use image::ENTRY_FIRST;
+use image::ENTRY_LIVE;
+use image::ENTRY_NAME;
+use image::ENTRY_PARENT;
+use image::ENTRY_RIGHTS;
+use image::PROGRAM;
+use image::PROGRAM_LAST;
+use image::TICKET;
+use image::TICKET_COUNT;
+use image::TICKET_DOCK;
+use image::TICKET_FIRST;
+use image::TICKET_KIND;
+use image::TICKET_NUMBER;
+use image::TICKET_OTHER;
+use image::TICKET_OWN;
+use image::TICKET_RIGHTS;
 use rights::Rights;
 use tables::Entry;
 use tables::Kind;
@@ -136,6 +151,15 @@ pub fn last_at(bytes: &[u8], program: usize) -> u16
     ensures { λ r. ⌜ r ≡ getD (lastsIn (now (bytes .entry))) program 0 ⌝ }
 {
     number_at(bytes, PROGRAM * program + PROGRAM_LAST)
+}
+
+// A program, counted over all pads.
+pub fn program_at(bytes: &[u8], program: usize) -> Program
+    requires { ⌜ (length (now bytes) ≡ imageSize) × (program < 32) ⌝ }
+    ensures { λ r. ⌜ r ≡ readProgram (drop (programSize * program) (now (bytes .entry))) ⌝ }
+{
+    let at = PROGRAM * program;
+    program_in(&bytes[at..])
 }
 
 pub fn entry_at(bytes: &[u8], place: usize) -> Entry

@@ -88,4 +88,3 @@ pub fn put_entry(bytes: &mut [u8], e: Entry)
     ];
     put_numbers(bytes, &numbers);
 }
-

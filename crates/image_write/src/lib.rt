@@ -6,7 +6,11 @@ ghost use lib.ListN.{set};
 ghost use Rattle.image.specs.Image.{isImage};
 ghost use Rattle.image_read.specs.Places.{ticketsIn, lastsIn, entriesIn};
 ghost use Rattle.image_write.specs.Shows.{Shows};
-use image::{ENTRIES, ENTRY, PROGRAM, PROGRAM_LAST, TICKET};
+use image::ENTRIES;
+use image::ENTRY;
+use image::PROGRAM;
+use image::PROGRAM_LAST;
+use image::TICKET;
 use tables::Entry;
 use tables::Ticket;
 

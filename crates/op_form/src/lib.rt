@@ -1,4 +1,4 @@
-// The refusals before every operation that the request alone decides: 1, 2 and 3.
+// The refusals that the request alone decides, before any operation: 1, 2 and 3.
 ghost use mathlib.Core.Path.{_≡_};
 ghost use Rattle.machine.specs.Operation.{fieldOk, fieldsOk};
 ghost use Rattle.op_form.specs.Early.{fieldsOf, earlyRefusal};
