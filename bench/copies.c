@@ -1,6 +1,6 @@
-/* Counts what the library copies: a memcpy of our own, linked before the C library's. Alone it is the counter, loaded before a program
- * that calls the C library's; with DRIVER it is a host that asks for one request of each kind. Prints the calls, the bytes, and each size
- * with how often it was copied. */
+/* Counts what the library copies: a memcpy of our own, linked before the C library's, and a host that empties a dock and asks for one
+ * request of each kind. Prints the copies, the bytes, and each size with how often it was copied. */
+#include "dock.h"
 #include <stddef.h>
 #include <stdio.h>
 
@@ -21,20 +21,17 @@ void *memcpy(void *restrict to, const void *restrict from, size_t n)
     return to;
 }
 
-static void counted(const char *what, unsigned long times)
+static void counted(const char *what)
 {
-    fprintf(stderr, "%-14s %5lu copies, %7lu bytes", what, calls / times, bytes / times);
+    fprintf(stderr, "%-14s %5lu copies, %7lu bytes", what, calls, bytes);
     for (int n = 0; n < SIZES; n++) {
-        if (often[n] >= times)
-            fprintf(stderr, "  %lu x %d", often[n] / times, n);
+        if (often[n])
+            fprintf(stderr, "  %lu x %d", often[n], n);
         often[n] = 0;
     }
     fprintf(stderr, "\n");
     calls = bytes = 0;
 }
-
-#ifdef DRIVER
-#include "dock.h"
 
 static struct dock dock;
 
@@ -45,12 +42,13 @@ static void ask(const char *what, struct dock_request request)
     uint16_t result = dock_ask(&dock, request, sheet).result;
     if (result)
         fprintf(stderr, "%s: refused, %d\n", what, result);
-    counted(what, 1);
+    counted(what);
 }
 
 int main(void)
 {
     dock_start(&dock);
+    counted("emptying");
     /* Two taken grants for each program. */
     for (int i = 0; i < 64; i++) {
         struct dock_request take = {.pad = i / 16, .program = i / 2 % 8, .op = DOCK_TAKE, .count = 1, .rights = 7};
@@ -66,10 +64,3 @@ int main(void)
     ask("recall, far", (struct dock_request){.op = DOCK_RECALL, .ticket = 5});
     ask("give back", (struct dock_request){.op = DOCK_GIVE_BACK, .ticket = 1});
 }
-#else
-/* Steps of the program `rounds`. */
-__attribute__((destructor)) static void end(void)
-{
-    counted("rounds, a step", 131070);
-}
-#endif

@@ -6,8 +6,8 @@ use mathlib.Core.Bool.{Bool, true, false, not, _&&_}
 use mathlib.Core.List.{List}
 use lib.Dec.{eqb}
 use lib.ListN.{length}
-use borrow.Author.Tests.{eqb-true, eqb-false, eq-eqb, ne-eqb, not-true, not-false}
-use Rattle.lists.proofs.Tests.{Case, pass, fail, case, and-l, and-r}
+use borrow.Author.Tests.{eqb-true, eqb-false, eq-eqb, ne-eqb}
+use Rattle.lists.proofs.Tests.{Case, pass, fail, case, and-l, and-r, passed, failed}
 use Rattle.tables.specs.Order.{inOrder}
 use Rattle.machine.specs.Numbers.{answerWidth}
 use Rattle.machine.specs.Refusal.{_when_else_}
@@ -18,13 +18,6 @@ use Rattle.lending.specs.Sequence.{Whole, AllServed}
 use Rattle.lending.specs.Batch.{Buffers, buffersFit, tablesOk, batchRefusal, startOf, allServed, untouched, batch, Leaves}
 use Rattle.lending.proofs.Lengths.{fit}
 use Rattle.lending.proofs.Refusals.{tables-told}
-
--- ---- a test in the code, by what its routine ensures
-pub passed : {r b : Bool} → r ≡ b → not r ≡ false → b ≡ true
-passed {r} e n = sym e ∙ not-false r n
-
-pub failed : {r b : Bool} → r ≡ b → not r ≡ true → b ≡ false
-failed {r} e n = sym e ∙ not-true r n
 
 -- ---- lengths
 pub whole : (b : Buffers) → buffersFit b ≡ true → Whole (countOf (b .requests)) (b .store) (b .sheets) (b .requests) (b .answers)

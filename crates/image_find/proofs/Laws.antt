@@ -6,9 +6,9 @@ use mathlib.Core.List.{List}
 use lib.ListN.{length, getD, drop}
 use lib.Seq.{drop-drop}
 use Rattle.lists.proofs.PartLaws.{length-tabulate, getD-tabulate}
-use Rattle.tables.specs.declared.{Ticket.Ticket, Program.Program, Pad.Pad}
+use Rattle.tables.specs.declared.{Program.Program, Pad.Pad}
 use Rattle.tables.specs.Names.{free, noProgram, noPad}
-use Rattle.tables.specs.Lookup.{Sized, padAt, programAt, ticketsOf, lastOf}
+use Rattle.tables.specs.Lookup.{Sized, padAt, programAt, lastOf}
 use Rattle.image.specs.Layout.{ticketSize, programLast, programSize, padSize}
 use Rattle.image.specs.Numbers.{numberAt}
 use Rattle.image.specs.Image.{readTicket, readProgram, readPad, decode}
@@ -43,7 +43,7 @@ module _ (bytes : List ℕ) where
       let e : padSize * a + programSize * b ≡ programSize * (8 * a + b) = omega arith in
       drop-drop (programSize * b) (padSize * a) bytes ∙ ap (λ (m : ℕ). drop m bytes) e
 
-  program-there : (a b : ℕ) → a < 4 → b < 8 → programAt (decode bytes) a b ≡ readProgram (drop (programSize * (8 * a + b)) bytes)
+  pub program-there : (a b : ℕ) → a < 4 → b < 8 → programAt (decode bytes) a b ≡ readProgram (drop (programSize * (8 * a + b)) bytes)
   program-there a b p q = program-read a b p q ∙ ap readProgram (program-start a b)
 
   ticket-placed : (p : ℕ) → p < 256 → getD (ticketsIn bytes) p free ≡ placed (decode bytes) p

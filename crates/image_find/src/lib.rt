@@ -1,15 +1,16 @@
-// A ticket and an entry found by name in the tables' image, and a free place for one.
+// A ticket and an entry found by name in the tables' image, a program found by its numbers, and a free place for a ticket or an entry.
 ghost use Prim.Native.Nat.{_/_, _%_, _<_};
 ghost use mathlib.Core.Path.{_≡_};
 ghost use lib.ListN.{length};
 ghost use Rattle.lists.specs.Lists.{firstIndex};
-ghost use Rattle.tables.specs.Lookup.{isNamed, ticketsOf, lookup, entryOf};
+ghost use Rattle.tables.specs.Lookup.{isNamed, programAt, ticketsOf, lookup, entryOf};
 ghost use Rattle.tables.specs.Change.{isFree, isSpare};
 ghost use Rattle.image.specs.Layout.{imageSize};
 ghost use Rattle.image.specs.Image.{decode};
 ghost use Rattle.image_read.specs.Places.{entriesIn};
 use tables::Entry;
 use tables::Name;
+use tables::Program;
 use tables::Ticket;
 
 // The live ticket of a name, or the free record.
@@ -33,6 +34,15 @@ pub fn ticket(image: &[u8], n: Name) -> Ticket
         i = i + 1;
     }
     Ticket::free()
+}
+
+// A program: its eight places for tickets and its last number.
+pub fn program(image: &[u8], pad: u16, program: u16) -> Program
+    requires { ⌜ (length (now image) ≡ imageSize) × ((pad < 4) × (program < 8)) ⌝ }
+    ensures { λ r. ⌜ r ≡ programAt (decode (now (image .entry))) pad program ⌝ }
+{
+    let at = 8 * image_places::wide(pad) + image_places::wide(program);
+    image_read::program_at(image, at)
 }
 
 // The place of the live entry of a name, or 256.

@@ -1,4 +1,4 @@
--- A pad by places: place 8 * program + i is the program's place i, and 64 is no place. Chains are walked by places (crate chains), since
+-- A pad by places: place 8 * program + i is the program's place i, and 64 is no place. Chains are walked by places (crate image_places), since
 -- a place is one number where a name is three.
 use Prim.Native.Nat.{ℕ, _+_, _*_, _/_}
 use mathlib.Core.Bool.{_||_, cond}

@@ -1,6 +1,7 @@
-// Places: tickets by place, 64 * pad + 8 * program + the place in the program; the place of a name, found through the named program's eight
-// numbers; and chains of parents by places. In a chain `up[i]` is the place of i's parent, and a number that is no place says that i has
-// none: tickets of a pad and entries of the dock are walked alike.
+// Places: the place of a ticket's name, and chains of parents walked from place to place.
+// A ticket's place is 64 * pad + 8 * program + the place in the program; a name's is found through the named program's eight numbers. In a
+// chain `up[i]` is the place of i's parent, and a number that is no place says that i has none: tickets of a pad and entries of the dock are
+// walked alike.
 ghost use mathlib.Core.Path.{_≡_};
 ghost use Prim.Native.Nat.{_<_};
 ghost use lib.ListN.{length};

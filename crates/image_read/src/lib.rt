@@ -1,7 +1,7 @@
 // The tables read from their image by place: a ticket, a last number, a program, an entry.
-ghost use Prim.Native.Nat.{_+_, _<_, _≤_};
+ghost use Prim.Native.Nat.{_+_, _*_, _<_, _≤_};
 ghost use mathlib.Core.Path.{_≡_};
-ghost use lib.ListN.{length, getD};
+ghost use lib.ListN.{length, getD, drop};
 ghost use Rattle.image.specs.Layout.{ticketSize, programSize, entrySize, imageSize};
 ghost use Rattle.image.specs.Numbers.{numberAt};
 ghost use Rattle.tables.specs.Names.{free, noEntry};
@@ -151,6 +151,15 @@ pub fn last_at(bytes: &[u8], program: usize) -> u16
     ensures { λ r. ⌜ r ≡ getD (lastsIn (now (bytes .entry))) program 0 ⌝ }
 {
     number_at(bytes, PROGRAM * program + PROGRAM_LAST)
+}
+
+// A program, counted over all pads.
+pub fn program_at(bytes: &[u8], program: usize) -> Program
+    requires { ⌜ (length (now bytes) ≡ imageSize) × (program < 32) ⌝ }
+    ensures { λ r. ⌜ r ≡ readProgram (drop (programSize * program) (now (bytes .entry))) ⌝ }
+{
+    let at = PROGRAM * program;
+    program_in(&bytes[at..])
 }
 
 pub fn entry_at(bytes: &[u8], place: usize) -> Entry

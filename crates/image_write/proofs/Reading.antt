@@ -10,9 +10,10 @@ use borrow.Author.Tests.{ltb-true, ltb-false}
 use Rattle.lists.proofs.Tests.{Case, pass, fail, case}
 use Rattle.rights.specs.Rules.{rightsOf}
 use Rattle.tables.specs.Names.{nameOf}
-use Rattle.image.specs.Layout.{ticketSize, entrySize}
+use Rattle.image.specs.Layout.{ticketKind, ticketNumber, ticketOwn, ticketOther, ticketFirst, ticketCount, ticketRights, ticketDock, ticketSize}
+use Rattle.image.specs.Layout.{entryLive, entryName, entryParent, entryFirst, entryCount, entryRights, entrySize}
 use Rattle.image.specs.Numbers.{numberAt}
-use Rattle.image.specs.Image.{kindOf, readTicket, readEntry, ticketStart, entryStart}
+use Rattle.image.specs.Image.{kindOf, nameAt, readTicket, readEntry, ticketStart, entryStart}
 use Rattle.image_read.specs.Places.{lastStart}
 use Rattle.image_write.proofs.Parts.{Outside}
 
@@ -25,55 +26,56 @@ module _ (x y : List ℕ) where
     pub number-same : (at : ℕ) → at + 2 ≤ n → numberAt at x ≡ numberAt at y
     number-same at h = λ i. same at (omega (arith, h)) i + 256 * same (at + 1) (omega (arith, h)) i
 
+    name-same : (at : ℕ) → at + 6 ≤ n → nameAt at x ≡ nameAt at y
+    name-same at h =
+        λ i. nameOf (number-same at (omega (arith, h)) i) (number-same (at + 2) (omega (arith, h)) i) (number-same (at + 4) (omega (arith, h)) i)
+
   pub ticket-same : SameFirst ticketSize → readTicket x ≡ readTicket y
   unfolding readTicket
   ticket-same same =
-      let n = number-same ticketSize same in
+      let number = number-same ticketSize same in
+      let name = name-same ticketSize same in
       λ i. record {
-        kind = kindOf (n 0 (omega arith) i);
-        number = n 2 (omega arith) i;
-        own = n 4 (omega arith) i;
-        other = nameOf (n 6 (omega arith) i) (n 8 (omega arith) i) (n 10 (omega arith) i);
-        first = n 12 (omega arith) i;
-        count = n 14 (omega arith) i;
-        rights = rightsOf (n 16 (omega arith) i);
-        dock = nameOf (n 18 (omega arith) i) (n entrySize (omega arith) i) (n 22 (omega arith) i);
+        kind = kindOf (number ticketKind (omega arith) i);
+        number = number ticketNumber (omega arith) i;
+        own = number ticketOwn (omega arith) i;
+        other = name ticketOther (omega arith) i;
+        first = number ticketFirst (omega arith) i;
+        count = number ticketCount (omega arith) i;
+        rights = rightsOf (number ticketRights (omega arith) i);
+        dock = name ticketDock (omega arith) i;
       }
 
   pub entry-same : SameFirst entrySize → readEntry x ≡ readEntry y
   unfolding readEntry
   entry-same same =
-      let n = number-same entrySize same in
+      let number = number-same entrySize same in
+      let name = name-same entrySize same in
       λ i. record {
-        live = eqb (n 0 (omega arith) i) 1;
-        name = nameOf (n 2 (omega arith) i) (n 4 (omega arith) i) (n 6 (omega arith) i);
-        parent = nameOf (n 8 (omega arith) i) (n 10 (omega arith) i) (n 12 (omega arith) i);
-        first = n 14 (omega arith) i;
-        count = n 16 (omega arith) i;
-        rights = rightsOf (n 18 (omega arith) i);
+        live = eqb (number entryLive (omega arith) i) 1;
+        name = name entryName (omega arith) i;
+        parent = name entryParent (omega arith) i;
+        first = number entryFirst (omega arith) i;
+        count = number entryCount (omega arith) i;
+        rights = rightsOf (number entryRights (omega arith) i);
       }
 
 -- ---- places apart: a ticket's bytes, a last number's, an entry's
-pub tickets-apart : (p q : ℕ) → (p ≡ q → ⊥) → Outside (ticketStart q) ticketSize (ticketStart p) ticketSize
-tickets-apart p q ne = go (case (ltb p q))
+places-apart : (start : ℕ → ℕ) (w : ℕ) → ((p q : ℕ) → p < q → start p + w ≤ start q) → (p q : ℕ) → (p ≡ q → ⊥) → Outside (start q) w (start p) w
+places-apart start w behind p q ne = go (case (ltb p q))
   where
-    go : Case (ltb p q) → Outside (ticketStart q) ticketSize (ticketStart p) ticketSize
-    go (pass e) = inl (omega (arith, ltb-true p q e))
-    go (fail e) = inr (omega (arith, ltb-false p q e, ne))
+    go : Case (ltb p q) → Outside (start q) w (start p) w
+    go (pass e) = inl (behind p q (ltb-true p q e))
+    go (fail e) = inr (behind q p (omega (arith, ltb-false p q e, ne)))
+
+pub tickets-apart : (p q : ℕ) → (p ≡ q → ⊥) → Outside (ticketStart q) ticketSize (ticketStart p) ticketSize
+tickets-apart = places-apart ticketStart ticketSize (λ p q h. omega (arith, h))
 
 pub lasts-apart : (p q : ℕ) → (p ≡ q → ⊥) → Outside (lastStart q) 2 (lastStart p) 2
-lasts-apart p q ne = go (case (ltb p q))
-  where
-    go : Case (ltb p q) → Outside (lastStart q) 2 (lastStart p) 2
-    go (pass e) = inl (omega (arith, ltb-true p q e))
-    go (fail e) = inr (omega (arith, ltb-false p q e, ne))
+lasts-apart = places-apart lastStart 2 (λ p q h. omega (arith, h))
 
 pub entries-apart : (p q : ℕ) → (p ≡ q → ⊥) → Outside (entryStart q) entrySize (entryStart p) entrySize
-entries-apart p q ne = go (case (ltb p q))
-  where
-    go : Case (ltb p q) → Outside (entryStart q) entrySize (entryStart p) entrySize
-    go (pass e) = inl (omega (arith, ltb-true p q e))
-    go (fail e) = inr (omega (arith, ltb-false p q e, ne))
+entries-apart = places-apart entryStart entrySize (λ p q h. omega (arith, h))
 
 -- the last number of program q and the ticket at place p
 ticket-last : (p q : ℕ) → (lastStart q + 2 ≤ ticketStart p) ⊎ (ticketStart p + ticketSize ≤ lastStart q)

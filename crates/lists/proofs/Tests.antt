@@ -4,7 +4,7 @@ use Prim.Native.Nat.{ℕ, _≤_}
 use mathlib.Core.Path.{_≡_, refl, sym, _∙_, subst}
 use mathlib.Core.Bool.{Bool, true, false, not, _&&_, _||_, cond}
 use lib.Dec.{leb}
-use borrow.Author.Tests.{leb-true, le-leb}
+use borrow.Author.Tests.{leb-true, le-leb, not-true, not-false}
 use Rattle.lists.specs.Tests.{implies, between}
 
 -- a test's two cases, with the equation
@@ -35,6 +35,13 @@ cannot-fail false ne = absurd (ne refl)
 pub not-pass : {a b : Bool} → (a ≡ true → b ≡ true) → b ≡ false → a ≡ false
 not-pass {a = true} {b} h e = sym (h refl) ∙ e
 not-pass {a = false} {b} h e = refl
+
+-- a guard `if !f(..)`, by what f ensures: where it is left the test passed, where it is taken it failed
+pub passed : {r b : Bool} → r ≡ b → not r ≡ false → b ≡ true
+passed {r} e left = sym e ∙ not-false r left
+
+pub failed : {r b : Bool} → r ≡ b → not r ≡ true → b ≡ false
+failed {r} e taken = sym e ∙ not-true r taken
 
 -- tests that pass together are equal
 pub both-ways : (a b : Bool) → (a ≡ true → b ≡ true) → (b ≡ true → a ≡ true) → a ≡ b

@@ -1,5 +1,5 @@
-// Removal on a pad, on the tables' image where it lies: a ticket with all under it, the head of a chain with all under it, and one ticket by
-// itself. What goes is marked first, so that no test reads what was cleared.
+// Removal on a pad, in the image: a ticket with all under it, the head of a chain with all under it, and one ticket by itself.
+// What goes is marked first, so that no test reads what was cleared.
 ghost use Prim.Native.Nat.{_<_};
 ghost use mathlib.Core.Path.{_≡_};
 ghost use mathlib.Core.Bool.{true, _||_};

@@ -10,6 +10,7 @@ use Rattle.tables.specs.declared.Tables.{Tables}
 use Rattle.tables.specs.Order.{t1, t2, t3, t4, t5, t6, inOrder}
 use Rattle.image.specs.Layout.{imageSize}
 use Rattle.image.specs.Image.{kindsOk, livesOk, isImage}
+use Rattle.order_programs.proofs.ThreeRules.{rule-1, rule-2, rule-4}
 
 module _ (image : List ℕ) (long : length image ≡ imageSize) (t : Tables) where
   -- what is to be decided
@@ -51,17 +52,8 @@ module _ (image : List ℕ) (long : length image ≡ imageSize) (t : Tables) whe
   entries-broken e = sym (cannot-pass whole (λ o. contradiction (entries-hold o) e))
 
   module _ (hold : programs ≡ true) where
-    rules : (t1 t && t2 t && t4 t) ≡ true
+    pub rules : (t1 t && t2 t && t4 t) ≡ true
     rules = and-r (kindsOk image) (t1 t && t2 t && t4 t) hold
-
-    pub rule-1 : t1 t ≡ true
-    rule-1 = and-l (t1 t) (t2 t) (and-l (t1 t && t2 t) (t4 t) rules)
-
-    pub rule-2 : t2 t ≡ true
-    rule-2 = and-r (t1 t) (t2 t) (and-l (t1 t && t2 t) (t4 t) rules)
-
-    rule-4 : t4 t ≡ true
-    rule-4 = and-r (t1 t && t2 t) (t4 t) rules
 
     pub last-rule : t3 t ≡ true → (livesOk image && t5 t) ≡ true → t6 t ≡ whole
     unfolding inOrder isImage
@@ -70,9 +62,9 @@ module _ (image : List ℕ) (long : length image ≡ imageSize) (t : Tables) whe
           eq-eqb (length image) imageSize long,
           and-l (kindsOk image) (t1 t && t2 t && t4 t) hold,
           and-l (livesOk image) (t5 t) e,
-          rule-1,
-          rule-2,
+          rule-1 t rules,
+          rule-2 t rules,
           c,
-          rule-4,
+          rule-4 t rules,
           and-r (livesOk image) (t5 t) e,
         )

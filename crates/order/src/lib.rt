@@ -1,4 +1,5 @@
-// Tables in order: T1 to T6, and the test beside them. The tables are read from their image where it lies: nothing is copied.
+// The order test: is it an image, are its tables in order by T1 to T6, and does no recall name a live child of another pad?
+// The tables are read from their image where it lies: nothing is copied.
 ghost use Prim.Native.Nat.{_<_};
 ghost use mathlib.Core.Path.{_≡_};
 ghost use mathlib.Core.Bool.{_&&_};

@@ -9,7 +9,6 @@ use mathlib.Core.List.{List}
 use lib.Dec.{ltb}
 use lib.ListN.{length, getD}
 use borrow.Author.Tests.{ltb-true, lt-ltb, le-ltb, ne-eqb}
-use Rattle.lists.specs.Tests.{implies}
 use Rattle.lists.proofs.Tests.{and-l, and-r, and-intro, no-true, implies-intro, implies-elim, both-ways, cannot-pass}
 use Rattle.lists.proofs.Everywhere.{allAt-intro, allAt-elim}
 use Rattle.tables.specs.declared.{Name.Name, Ticket.Ticket, Tables.Tables}
@@ -25,6 +24,7 @@ use Rattle.image_places.proofs.Laws.{every-placed, placed-every, lookup-place, 
 use Rattle.order_lists.specs.Listing.{TicketsListed}
 use Rattle.order_lists.proofs.Laws.{none-listed}
 use Rattle.order_children.specs.Parts.{childOk, childrenOk, Ups, headsOk}
+use Rattle.order_children.proofs.Children.{headed}
 use Rattle.tables.specs.Kinds.{isLive, isGrant, isHead, isChild}
 
 -- ---- one step of the two walks
@@ -170,19 +170,16 @@ module _ (t : Tables) (tickets : List Ticket) (lasts numbers : List ℕ) (flat :
     together (suc left) p h g = ⊎-elim (at-head left p h) (λ c. at-child left p h c (together left)) (grant-sort (ticket p .kind) g)
 
     -- ---- T3
-    abbrev headed : ℕ → Ticket → Bool
-    headed p k = implies (isChild (k .kind)) (ltb (endFrom 64 up p) 256)
-
-    heads-say : headsOk tickets up ≡ true → (p : ℕ) → p < 256 → headed p (ticket p) ≡ true
+    heads-say : headsOk tickets up ≡ true → (p : ℕ) → p < 256 → headed up p (ticket p) ≡ true
     unfolding headsOk
     heads-say e p h =
-        subst (λ (k : Ticket). headed p k ≡ true) (flat .same p h) (allAt-elim free headed tickets e p (omega (arith, h, flat .long)))
+        subst (λ (k : Ticket). headed up p k ≡ true) (flat .same p h) (allAt-elim free (headed up) tickets e p (omega (arith, h, flat .long)))
 
-    heads-from : ((p : ℕ) → p < 256 → headed p (ticket p) ≡ true) → headsOk tickets up ≡ true
+    heads-from : ((p : ℕ) → p < 256 → headed up p (ticket p) ≡ true) → headsOk tickets up ≡ true
     unfolding headsOk
     heads-from h =
-        allAt-intro free headed tickets
-        (λ p b. let b′ : p < 256 = subst (λ (m : ℕ). p < m) (flat .long) b in subst (λ (k : Ticket). headed p k ≡ true) (sym (flat .same p b′)) (h p b′))
+        allAt-intro free (headed up) tickets
+        (λ p b. let b′ : p < 256 = subst (λ (m : ℕ). p < m) (flat .long) b in subst (λ (k : Ticket). headed up p k ≡ true) (sym (flat .same p b′)) (h p b′))
 
     child-ok : (p : ℕ) → p < 256 → isChild (ticket p .kind) ≡ true → ltb (endFrom 64 up p) 256 ≡ true → order.childOk t (name p) (ticket p) ≡ true
     unfolding order.childOk
@@ -203,7 +200,7 @@ module _ (t : Tables) (tickets : List Ticket) (lasts numbers : List ℕ) (flat :
     pub heads-decide : headsOk tickets up ≡ t3 t
     heads-decide = both-ways (headsOk tickets up) (t3 t) rule tests
       where
-        child : (p : ℕ) → p < 256 → isChild (ticket p .kind) ≡ true → headed p (ticket p) ≡ true → order.childOk t (name p) (ticket p) ≡ true
+        child : (p : ℕ) → p < 256 → isChild (ticket p .kind) ≡ true → headed up p (ticket p) ≡ true → order.childOk t (name p) (ticket p) ≡ true
         child p h c e = child-ok p h c (implies-elim (isChild (ticket p .kind)) _ e c)
 
         rule : headsOk tickets up ≡ true → t3 t ≡ true

@@ -10,11 +10,11 @@ use mathlib.Core.List.{List}
 use lib.Dec.{eqb, ltb}
 use lib.ListN.{length, getD, set, length-set}
 use lib.Seq.{getD-set-same, getD-set-other}
+use borrow.Author.Count.{below-more}
 use borrow.Author.Tests.{eqb-true, eqb-false, lt-ltb, le-ltb, ltb-true, ltb-false}
 use Rattle.lists.specs.Lists.{allAt}
 use Rattle.lists.proofs.Tests.{Case, pass, fail, case, no-true, cannot-pass}
 use Rattle.lists.proofs.Everywhere.{allAt-intro, allAt-elim}
-use Rattle.lists.proofs.Loops.{so-far}
 use Rattle.lists.proofs.Pigeonhole.{pigeonhole}
 use Rattle.image_places.specs.Walk.{endFrom}
 use Rattle.order_entry_chains.specs.Ends.{Ends, stop, link, Ended, Loose, Cut, Settled, LinksListed, allEnd}
@@ -205,14 +205,14 @@ module _ (first places : List ℕ) (i : ℕ) (up : List ℕ) (w : Walked first p
   pub walked-skip : 256 ≤ getD up at 0 → Walked first places (i + 1) up
   walked-skip s = record {
     cut = w .cut;
-    ended = so-far i (w .ended) (subst (Ended first) here (was-ended first up (w .cut) {d = 0} (stop {i = at} (omega (arith, s, w .cut .long, long)))));
+    ended = below-more _ i (w .ended) (subst (Ended first) here (was-ended first up (w .cut) {d = 0} (stop {i = at} (omega (arith, s, w .cut .long, long)))));
   }
 
   module _ (after : List ℕ) (r : Bool) (s : Settled up after at 256 r) where
     pub walked-more : r ≡ true → Walked first places (i + 1) after
     walked-more q = record {
       cut = cut-more first up after (w .cut) (s .cut q);
-      ended = so-far i (w .ended) (subst (Ended first) here (was-ended first up (w .cut) (s .ended q .ends)));
+      ended = below-more _ i (w .ended) (subst (Ended first) here (was-ended first up (w .cut) (s .ended q .ends)));
     }
 
     pub walked-bad : at < 256 → r ≡ false → false ≡ allEnd first

@@ -6,9 +6,9 @@ use mathlib.Core.Bool.{Bool, true, false, _&&_, cond}
 use mathlib.Core.List.{List}
 use lib.Dec.{leb}
 use lib.ListN.{length, getD, set, replicate, length-set}
+use borrow.Author.Count.{below-more}
 use borrow.Author.Tests.{le-leb, lt-leb}
 use Rattle.lists.proofs.Tests.{contradiction, and-intro, and-false}
-use Rattle.lists.proofs.Loops.{so-far}
 use Rattle.lists.proofs.Reading.{any-default}
 use Rattle.lists.proofs.PartLaws.{every-intro, every-broken}
 use Rattle.tables.specs.declared.{Ticket.Ticket, Entry.Entry}
@@ -71,7 +71,7 @@ module _ (image numbers : List ℕ) where
 
     module _ (two : n ≤ 1) (read : Entry) (this : read ≡ getD es i noEntry) where
       lives-more : (p : ℕ) → p < i + 1 → leb (said p) 1 ≡ true
-      lives-more = so-far i (w .lives) (le-leb (said i) 1 (omega (arith, e, two)))
+      lives-more = below-more _ i (w .lives) (le-leb (said i) 1 (omega (arith, e, two)))
 
       -- ---- a place without an entry
       pub passed-free : read .live ≡ false → Passed (i + 1) notes roots hung a b

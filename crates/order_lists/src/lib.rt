@@ -1,5 +1,5 @@
-// The places of an image that the order test goes on from: those of taken grants, children and recalls, and of entries under the store and
-// under others. They are listed once, so that each later test looks only at what it is about. Here is what a listing is, and how it grows.
+// Lists of places for the order test: of taken grants, children and recalls, and of entries under the store and under others.
+// They are made once, so that each later test looks only at what it is about. Here is what a listing is, and how it grows.
 ghost use Prim.Native.Nat.{_≤_};
 ghost use mathlib.Core.Path.{_≡_};
 ghost use mathlib.Core.Bool.{cond};

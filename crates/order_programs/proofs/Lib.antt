@@ -1,3 +1,4 @@
+pub mod ThreeRules
 mod Numbers
 mod Programs
 mod Passing

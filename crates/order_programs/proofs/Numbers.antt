@@ -2,19 +2,19 @@
 -- written is each one's number, 0 where there is none. So a number that no place before it in its program has is new.
 use Prim.Native.Nat.{ℕ, _+_, _-_, _*_, _/_, _≤_, _<_}
 use native.Mathlib.Omega.{arith}
-use mathlib.Core.Path.{_≡_, sym, ap, subst, _∙_}
+use mathlib.Core.Path.{_≡_, sym, ap, _∙_}
 use mathlib.Core.Bool.{Bool, true, false}
 use mathlib.Core.List.{List, map}
 use lib.Dec.{eqb}
 use lib.ListN.{length, getD, set, drop, replicate, length-set, length-map, length-drop, length-replicate, List·getD-map}
 use lib.Seq.{getD-set-same, getD-set-other, getD-take, getD-drop, length-take-le, ext-getD}
-use borrow.Author.Tests.{eqb-true, eqb-false, eq-eqb, leb-true, leb-false}
+use borrow.Author.Count.{below-more}
+use borrow.Author.Tests.{eqb-true, eq-eqb, leb-true, leb-false}
 use Rattle.lists.specs.Tests.{between}
 use Rattle.lists.specs.Lists.{firstIndex}
 use Rattle.lists.proofs.Tests.{Case, pass, fail, case, contradiction, cannot-pass, cannot-fail, implies-intro}
 use Rattle.lists.proofs.Search.{first-bound, find-passes}
 use Rattle.lists.proofs.Reading.{same-all}
-use Rattle.lists.proofs.Loops.{so-far}
 use Rattle.tables.specs.declared.Ticket.{Ticket}
 use Rattle.tables.specs.Kinds.{isLive, isGrant}
 use Rattle.tables.specs.Names.{free}
@@ -109,6 +109,12 @@ module _ (tickets : List Ticket) (lasts : List ℕ) where
       at p = List·getD-map numberOf tickets p free
 
   module _ (i : ℕ) (numbers : List ℕ) (so : SoFar i numbers) (low : i < 256) where
+    -- no two are alike up to here, where the ticket here is like none before it
+    apart-more : ((p : ℕ) → p < i → p / 8 ≡ i / 8 → live p ≡ true → live i ≡ true → ticket p .number ≡ ticket i .number → ⊥) → Apart (i + 1)
+    apart-more here p q g h =
+        below-more (λ q. p < q → p / 8 ≡ q / 8 → live p ≡ true → live q ≡ true → ticket p .number ≡ ticket q .number → ⊥) i
+        (λ q b g. so .apart p q g b) (here p) q h g
+
     -- ---- a place without a ticket
     dead-ok : live i ≡ false → PlaceOk i
     unfolding grantOk
@@ -120,15 +126,11 @@ module _ (tickets : List Ticket) (lasts : List ℕ) where
     pub dead-turn : live i ≡ false → SoFar (i + 1) numbers
     dead-turn e = record {
       long = so .long;
-      ok = so-far i (so .ok) (dead-ok e);
-      apart = λ p q g h r l m. more p q g h r l m (case (eqb q i));
-      written = so-far i (so .written) (so .rest i (omega arith) ∙ sym (dead-number (ticket i) e));
+      ok = below-more _ i (so .ok) (dead-ok e);
+      apart = apart-more (λ p g r m l. contradiction l e);
+      written = below-more _ i (so .written) (so .rest i (omega arith) ∙ sym (dead-number (ticket i) e));
       rest = λ p h. so .rest p (omega (arith, h));
     }
-      where
-        more : (p q : ℕ) → p < q → q < i + 1 → p / 8 ≡ q / 8 → live p ≡ true → live q ≡ true → Case (eqb q i) → ticket p .number ≡ ticket q .number → ⊥
-        more p q g h r l m (pass z) = contradiction (subst (λ (x : ℕ). live x ≡ true) (eqb-true q i z) m) e
-        more p q g h r l m (fail z) = so .apart p q g (omega (arith, h, eqb-false q i z)) r l m
 
     -- ---- the numbers before it in its program
     before-long : length (before i numbers) ≡ i - 8 * (i / 8)
@@ -151,20 +153,14 @@ module _ (tickets : List Ticket) (lasts : List ℕ) where
         pub live-turn : PlaceOk i → (x : ℕ) → x ≡ ticket i .number → SoFar (i + 1) (set numbers i x)
         live-turn ok x e = record {
           long = length-set numbers i x ∙ so .long;
-          ok = so-far i (so .ok) ok;
-          apart = λ p q g h r a b. more p q g h r a b (case (eqb q i));
-          written = so-far i kept (getD-set-same numbers i x 0 (omega (arith, so .long, low)) ∙ e ∙ sym (live-number (ticket i) l));
+          ok = below-more _ i (so .ok) ok;
+          apart = apart-more (λ p g r m _. unlike p g r m);
+          written = below-more _ i kept (getD-set-same numbers i x 0 (omega (arith, so .long, low)) ∙ e ∙ sym (live-number (ticket i) l));
           rest = λ p h. getD-set-other numbers i p x 0 (λ z. omega (arith, z, h)) ∙ so .rest p (omega (arith, h));
         }
           where
             kept : (p : ℕ) → p < i → getD (set numbers i x) p 0 ≡ numberOf (ticket p)
             kept p h = getD-set-other numbers i p x 0 (λ z. omega (arith, z, h)) ∙ so .written p h
-
-            more : (p q : ℕ) → p < q → q < i + 1 → p / 8 ≡ q / 8 → live p ≡ true → live q ≡ true → Case (eqb q i) → ticket p .number ≡ ticket q .number → ⊥
-            more p q g h r a b (pass z) =
-                let y : q ≡ i = eqb-true q i z in
-                λ s. unlike p (omega (arith, g, y)) (r ∙ ap (λ (m : ℕ). m / 8) y) a (s ∙ ap (λ (m : ℕ). ticket m .number) y)
-            more p q g h r a b (fail z) = so .apart p q g (omega (arith, h, eqb-false q i z)) r a b
 
       -- ---- a ticket whose number is not new
       pub old-number : isNew (ticket i .number) (before i numbers) ≡ false → 1 ≤ ticket i .number → Apart 256 → ⊥

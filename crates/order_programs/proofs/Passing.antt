@@ -6,10 +6,10 @@ use mathlib.Core.Bool.{Bool, true, false, _&&_, cond}
 use mathlib.Core.List.{List}
 use lib.Dec.{leb}
 use lib.ListN.{length, getD, set, replicate, length-set}
+use borrow.Author.Count.{below-more}
 use borrow.Author.Tests.{le-leb, lt-leb}
 use Rattle.lists.specs.Tests.{between}
 use Rattle.lists.proofs.Tests.{contradiction, cannot-pass, and-l, and-r, and-intro}
-use Rattle.lists.proofs.Loops.{so-far}
 use Rattle.lists.proofs.PartLaws.{every-intro, every-broken}
 use Rattle.tables.specs.declared.{Kind.Kind, Ticket.Ticket, Tables.Tables}
 use Rattle.tables.specs.Kinds.{isLive, isTaken, isChild, isRecall}
@@ -78,7 +78,7 @@ module _ (image : List ℕ) where
 
     module _ (five : n ≤ 4) where
       kinds-more : (p : ℕ) → p < i + 1 → leb (said p) 4 ≡ true
-      kinds-more = so-far i (w .kinds) (le-leb (said i) 4 (omega (arith, e, five)))
+      kinds-more = below-more _ i (w .kinds) (le-leb (said i) 4 (omega (arith, e, five)))
 
       -- ---- a place without a ticket
       module _ (z : n ≡ 0) where

@@ -4,12 +4,11 @@ use native.Mathlib.Omega.{arith}
 use mathlib.Core.Path.{_≡_, sym, ap, subst, _∙_}
 use mathlib.Core.Bool.{true, false, _&&_}
 use mathlib.Core.List.{List}
-use lib.Dec.{ltb, eqb}
+use lib.Dec.{eqb}
 use lib.ListN.{length, getD}
-use borrow.Author.Tests.{ltb-true, ltb-false}
 use Rattle.lists.specs.Tests.{implies, between}
 use Rattle.lists.specs.Lists.{all, noTwo}
-use Rattle.lists.proofs.Tests.{Case, pass, fail, case, contradiction, cannot-pass, cannot-fail, and-l, and-r, and-intro, implies-intro, implies-elim, between-low}
+use Rattle.lists.proofs.Tests.{contradiction, cannot-pass, cannot-fail, and-l, and-r, and-intro, implies-intro, implies-elim, between-low}
 use Rattle.lists.proofs.Everywhere.{all-intro, all-elim}
 use Rattle.lists.proofs.Keyed.{Distinct, distinct-intro, distinct-test}
 use Rattle.tables.specs.declared.{Name.Name, Ticket.Ticket, Tables.Tables}
@@ -24,6 +23,7 @@ use Rattle.image_places.specs.Places.{placed, nameAt, Flattened}
 use Rattle.image_places.proofs.Laws.{every-placed, placed-every}
 use Rattle.image_places.proofs.Laying.{at-place}
 use Rattle.order_programs.specs.Parts.{isNew, grantOk, before, ticketOk}
+use Rattle.order_programs.proofs.ThreeRules.{rule-1, rule-2, rule-4}
 use Rattle.order_programs.proofs.Numbers.{ticket, live, PlaceOk, Apart, SoFar, old-number}
 
 -- of one ticket
@@ -64,12 +64,10 @@ module _ (t : Tables) (z : Sized t) (tickets : List Ticket) (lasts : List ℕ) (
           (sym (ap (λ (k : Ticket). k .number) x) ∙ e ∙ ap (λ (k : Ticket). k .number) y)
 
       distinct : Distinct ticketKeys (ticketsOf t a b)
-      distinct i j b₁ b₂ l m e = go (case (ltb i j)) (case (ltb j i))
-        where
-          go : Case (ltb i j) → Case (ltb j i) → i ≡ j
-          go (pass x) y = absurd (clash i j (ltb-true i j x) (in-eight j b₂) l m e)
-          go (fail x) (pass y) = absurd (clash j i (ltb-true j i y) (in-eight i b₁) m l (sym e))
-          go (fail x) (fail y) = omega (arith, ltb-false i j x, ltb-false j i y)
+      distinct i j b₁ b₂ l m e =
+          let low : i < j → ⊥ = λ h. clash i j h (in-eight j b₂) l m e in
+          let high : j < i → ⊥ = λ h. clash j i h (in-eight i b₁) m l (sym e) in
+          omega (arith, low, high)
 
       range : (i : ℕ) → i < 8 → isLive (ticketAt t a b i .kind) ≡ true → between 1 (lastOf t a b) (ticketAt t a b i .number) ≡ true
       range i h l =
@@ -113,15 +111,6 @@ module _ (t : Tables) (z : Sized t) (tickets : List Ticket) (lasts : List ℕ) (
 
   -- ---- and back
   module _ (rules : (t1 t && t2 t && t4 t) ≡ true) where
-    rule-1 : t1 t ≡ true
-    rule-1 = and-l (t1 t) (t2 t) (and-l _ (t4 t) rules)
-
-    rule-2 : t2 t ≡ true
-    rule-2 = and-r (t1 t) (t2 t) (and-l _ (t4 t) rules)
-
-    rule-4 : t4 t ≡ true
-    rule-4 = and-r (t1 t && t2 t) (t4 t) rules
-
     module _ (p : ℕ) (h : p < 256) where
       pad-low : p / 64 < 4
       pad-low = omega arith
@@ -130,7 +119,7 @@ module _ (t : Tables) (z : Sized t) (tickets : List Ticket) (lasts : List ℕ) (
       program-low = omega arith
 
       program : numbersOk (programAt t (p / 64) (p / 8 % 8)) ≡ true
-      program = numbers-at t z rule-1 pad-low program-low
+      program = numbers-at t z (rule-1 t rules) pad-low program-low
 
       place-low : p % 8 < length (ticketsOf t (p / 64) (p / 8 % 8))
       place-low = subst (λ (m : ℕ). p % 8 < m) (sym (z .tickets (p / 64) (p / 8 % 8) pad-low program-low)) (omega arith)
@@ -151,8 +140,8 @@ module _ (t : Tables) (z : Sized t) (tickets : List Ticket) (lasts : List ℕ) (
       grant-there : grantOk (nameAt p (placed t p)) (placed t p) ≡ true
       unfolding t2 t4
       grant-there =
-          grant-test (nameAt p (placed t p)) (placed t p) (every-placed t z isGrant (λ n k. spanOk k) rule-2 p h)
-          (every-placed t z isHead (λ n k. eqName (k .dock) n) rule-4 p h)
+          grant-test (nameAt p (placed t p)) (placed t p) (every-placed t z isGrant (λ n k. spanOk k) (rule-2 t rules) p h)
+          (every-placed t z isHead (λ n k. eqName (k .dock) n) (rule-4 t rules) p h)
 
       pub place-says : PlaceOk tickets lasts p
       place-says = record {
@@ -162,7 +151,7 @@ module _ (t : Tables) (z : Sized t) (tickets : List Ticket) (lasts : List ℕ) (
 
     distinct-there : (a b : ℕ) → a < 4 → b < 8 → Distinct ticketKeys (ticketsOf t a b)
     unfolding numbersOk
-    distinct-there a b p q = distinct-intro ticketKeys ticketLaws (ticketsOf t a b) (and-l _ _ (numbers-at t z rule-1 p q))
+    distinct-there a b p q = distinct-intro ticketKeys ticketLaws (ticketsOf t a b) (and-l _ _ (numbers-at t z (rule-1 t rules) p q))
 
     pub apart-says : Apart tickets lasts 256
     apart-says p q g h r l m e =

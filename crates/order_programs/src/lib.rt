@@ -1,5 +1,6 @@
-// T1, T2 and T4: numbers, spans and dock names, place by place, in one pass over the tickets. On the way each kind is tested to be one of the
-// five, the numbers are written down as an index of the tickets, and the places that the later tests go over are listed.
+// T1, T2 and T4: numbers, spans and dock names, place by place, in one pass over the tickets.
+// On the way each kind is tested to be one of the five, the numbers are written down as an index of the tickets, and the places that the
+// later tests go over are listed.
 ghost use Prim.Native.Nat.{_<_};
 ghost use mathlib.Core.Path.{_≡_};
 ghost use mathlib.Core.Bool.{true, false, _&&_};

@@ -10,6 +10,7 @@ use mathlib.Core.List.{List, [], _∷_, _++_}
 use lib.Dec.{ltb, eqb}
 use lib.ListN.{length, getD, set, take, replicate, length-replicate, getD-replicate, length-set}
 use lib.Seq.{getD-set-same, getD-set-other, take-suc-set}
+use borrow.Author.Count.{below-more}
 use borrow.Author.Tests.{ltb-true, ltb-false, lt-ltb, eqb-true, eqb-false, eq-eqb, ne-eqb}
 use Rattle.lists.specs.Lists.{some, noTwo}
 use Rattle.lists.proofs.Tests.{Case, pass, fail, case, no-true, contradiction, cannot-pass, both-ways, not-test, or-left, or-right}
@@ -89,13 +90,9 @@ module _ (keys places : List ℕ) where
     apart-none a b p q = absurd (omega (arith, q))
 
     apart-more : (i : ℕ) → Apart i → (counts (key i) ≡ true → (a : ℕ) → a < i → counts (key a) ≡ true → key a ≡ key i → ⊥) → Apart (i + 1)
-    apart-more i apart new a b p q c d = go (case (eqb b i))
-      where
-        go : Case (eqb b i) → eqb (key a) (key b) ≡ false
-        go (pass e) =
-            let h : b ≡ i = eqb-true b i e in
-            rw h (ne-eqb (key a) (key i) (λ s. new (subst (λ (m : ℕ). counts (key m) ≡ true) h d) a (omega arith) c s))
-        go (fail e) = apart a b p (omega (arith, eqb-false b i e)) c d
+    apart-more i apart new a b p q =
+        below-more (λ b. a < b → counts (key a) ≡ true → counts (key b) ≡ true → eqb (key a) (key b) ≡ false) i (λ b h g. apart a b g h)
+        (λ g c d. ne-eqb (key a) (key i) (λ s. new d a g c s)) b q p
 
     module _ (long : length keys ≡ 256) (listing : KeysListed keys places) where
       apart-end : counts 256 ≡ false → (i : ℕ) → length places ≤ i → Apart i → noTwo counts eqb keys ≡ true
@@ -148,16 +145,9 @@ module _ (keys places : List ℕ) where
       marks-skip h = record {
         long = m .long;
         apart = apart-more isPlace i (m .apart) (λ c. absurd (omega (arith, ltb-true (key i) 256 c, is, h)));
-        hit = hit;
+        hit = below-more (λ a. key a < 256 → getD marks (key a) 0 ≡ 1) i (m .hit) (λ k. absurd (omega (arith, is, h, k)));
         from = λ p l ne. later i p (m .from p l ne);
       }
-        where
-          hit : (a : ℕ) → a < i + 1 → key a < 256 → getD marks (key a) 0 ≡ 1
-          hit a l k = m .hit a (go (case (eqb a i))) k
-            where
-              go : Case (eqb a i) → a < i
-              go (pass e) = let s : key a ≡ key i = ap key (eqb-true a i e) in absurd (omega (arith, s, is, h, k))
-              go (fail e) = omega (arith, eqb-false a i e, l)
 
       module _ (low : x < 256) where
         pub marks-more : getD marks x 0 ≡ 0 → Marks (i + 1) (set marks x 1)
@@ -178,17 +168,10 @@ module _ (keys places : List ℕ) where
                 omega (arith, e, f)
 
             hit : (a : ℕ) → a < i + 1 → key a < 256 → getD (set marks x 1) (key a) 0 ≡ 1
-            hit a l k = go (case (eqb (key a) x))
-              where
-                go : Case (eqb (key a) x) → getD (set marks x 1) (key a) 0 ≡ 1
-                go (pass e) = rw (eqb-true (key a) x e) (getD-set-same marks x 1 0 there)
-                go (fail e) =
-                    getD-set-other marks x (key a) 1 0 (eqb-false (key a) x e)
-                    ∙ m .hit a (earlier (case (eqb a i))) k
-                  where
-                    earlier : Case (eqb a i) → a < i
-                    earlier (pass f) = absurd (eqb-false (key a) x e (ap key (eqb-true a i f) ∙ sym is))
-                    earlier (fail f) = omega (arith, eqb-false a i f, l)
+            hit =
+                below-more (λ a. key a < 256 → getD (set marks x 1) (key a) 0 ≡ 1) i
+                (λ a l k. getD-set-other marks x (key a) 1 0 (clash a l) ∙ m .hit a l k)
+                (λ k. rw (sym is) (getD-set-same marks x 1 0 there))
 
             from : (p : ℕ) → p < 256 → (getD (set marks x 1) p 0 ≡ 0 → ⊥) → Before (i + 1) p
             from p l ne = go (case (eqb p x))
@@ -254,16 +237,9 @@ module _ (keys places : List ℕ) where
         long = m .long;
         few = omega (arith, m .few);
         apart = apart-more isDead i (m .apart) (λ c. absurd (omega (arith, ltb-true 256 (key i) c, is, h)));
-        hit = hit;
+        hit = below-more (λ a. 256 < key a → listed count dead (key a) ≡ true) i (m .hit) (λ k. absurd (omega (arith, is, h, k)));
         from = λ y e. later i y (m .from y e);
       }
-        where
-          hit : (a : ℕ) → a < i + 1 → 256 < key a → listed count dead (key a) ≡ true
-          hit a l k = m .hit a (go (case (eqb a i))) k
-            where
-              go : Case (eqb a i) → a < i
-              go (pass e) = let s : key a ≡ key i = ap key (eqb-true a i e) in absurd (omega (arith, s, is, h, k))
-              go (fail e) = omega (arith, eqb-false a i e, l)
 
       module _ (high : 256 < x) where
         pub dead-more : i < 256 → listed count dead x ≡ false → Dead (i + 1) (count + 1) (set dead count x)
@@ -285,11 +261,10 @@ module _ (keys places : List ℕ) where
                 ap (some (λ z. eqb z y)) e ∙ has-snoc (take count dead) x y
 
             hit : (a : ℕ) → a < i + 1 → 256 < key a → listed (count + 1) (set dead count x) (key a) ≡ true
-            hit a l k = one-more (key a) ∙ go (case (eqb a i))
-              where
-                go : Case (eqb a i) → (listed count dead (key a) || eqb x (key a)) ≡ true
-                go (pass e) = or-right (listed count dead (key a)) (eq-eqb x (key a) (is ∙ ap key (sym (eqb-true a i e))))
-                go (fail e) = or-left (eqb x (key a)) (m .hit a (omega (arith, eqb-false a i e, l)) k)
+            hit =
+                below-more (λ a. 256 < key a → listed (count + 1) (set dead count x) (key a) ≡ true) i
+                (λ a l k. one-more (key a) ∙ or-left (eqb x (key a)) (m .hit a l k))
+                (λ k. one-more (key i) ∙ or-right (listed count dead (key i)) (eq-eqb x (key i) is))
 
             from : (y : ℕ) → listed (count + 1) (set dead count x) y ≡ true → Before (i + 1) y
             from y e = go (case (eqb x y))

@@ -1,5 +1,5 @@
-// "No target has two recalls; every child has one": a test of the targets' keys, one for each place. A key below 256 is the place of a
-// live target, a key above 256 names a target without a place, and 256 stands where there is no recall.
+// "No target has two recalls; every child has one": a test of the targets' keys, one for each place.
+// A key below 256 is the place of a live target, a key above 256 names a target without a place, and 256 stands where there is no recall.
 ghost use mathlib.Core.Path.{_≡_};
 ghost use mathlib.Core.List.{List, map};
 ghost use lib.Dec.{eqb};

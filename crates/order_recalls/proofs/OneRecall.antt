@@ -31,14 +31,6 @@ use Rattle.order_recall_marks.proofs.Laws.{recall-key, key-is-place, key-has-no
 use Rattle.order_recalls.specs.Recalls.{LaidOut, recallHolds}
 use Rattle.tables.specs.Kinds.{isLive, isGrant, isChild, isRecall}
 
--- ---- tests
--- a guard `if !f(..)`: what f told where it was left, and where it was taken
-pub so : {r b : Bool} → r ≡ b → not r ≡ false → b ≡ true
-so {r} e l = sym e ∙ not-false r l
-
-pub not-so : {r b : Bool} → r ≡ b → not r ≡ true → b ≡ false
-not-so {r} e l = sym e ∙ not-true r l
-
 -- a grant, or a child, is live
 parent-live : (k : Ticket) → recallParentOk k ≡ true → isLive (k .kind) ≡ true
 unfolding recallParentOk

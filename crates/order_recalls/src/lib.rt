@@ -1,5 +1,6 @@
-// T6: the recalls, over an image by place. One pass finds each recall's target and keeps its key, one tests each recall by
-// itself, and the keys tell whether a target has two recalls and whether every child has one.
+// T6: the recalls, each with its grant and its target, read from the image by place.
+// One pass finds each recall's target and keeps its key, one tests each recall by itself, and the keys tell whether a target has two recalls
+// and whether every child has one.
 ghost use Prim.Native.Nat.{_+_, _*_, _<_};
 ghost use mathlib.Core.Path.{_≡_};
 ghost use mathlib.Core.Bool.{_&&_};

@@ -1,5 +1,5 @@
-// The rules of tables in order about one ticket or entry and what it names, each as a test of values. Each rule is the definition of the
-// same name in tables/specs/Order.antt.
+// The rules of tables in order about one ticket or entry and what it names, each as a test of values.
+// Each rule is the definition of the same name in tables/specs/Order.antt.
 ghost use mathlib.Core.Path.{_≡_};
 ghost use mathlib.Core.Bool.{_&&_, cond};
 ghost use Rattle.lists.specs.Tests.{implies, between};

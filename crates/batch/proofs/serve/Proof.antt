@@ -2,8 +2,9 @@
 use mathlib.Core.Path.{_≡_}
 use mathlib.Core.Bool.{true}
 use borrow.Author.Needs.{needs}
+use Rattle.lists.proofs.Tests.{passed, failed}
 use Rattle.lending.specs.Batch.{buffersFit, buffersOf}
-use Rattle.batch.proofs.Refusals.{passed, failed, whole, image-whole, leaves-13, leaves-14, leaves-0, tables-bad, tables-ok, is-image, is-in-order}
+use Rattle.batch.proofs.Refusals.{whole, image-whole, leaves-13, leaves-14, leaves-0, tables-bad, tables-ok, is-image, is-in-order}
 use Rattle.batch.proofs.serve.Statement.{statement}
 use Rattle.batch.proofs.serve.Tie as tie
 

@@ -1,7 +1,7 @@
 -- By the tests in their order.
 use mathlib.Core.Path.{sym, ap, _∙_}
 use borrow.Author.Needs.{needs}
-use borrow.Author.Tests.{not-true, not-false}
+use Rattle.lists.proofs.Tests.{passed, failed}
 use Rattle.tables.specs.Names.{nameOf}
 use Rattle.image.specs.Image.{decode}
 use Rattle.op_drop_tickets.specs.Docked.{dockedBy}
@@ -27,7 +27,7 @@ returns-2 c =
     let c5 = c3 .before .before in
     let a = c5 .args in
     with-none (decode (a .image .now)) (a .d) (nameOf (a .d .pad) (a .program) 0) (a .k) (sym (c3 .docked-by .ensures) ∙ c2 .if1 .left)
-    (sym (c .before .is-recall .ensures) ∙ not-true _ (c .if2 .taken))
+    (failed (c .before .is-recall .ensures) (c .if2 .taken))
 
 ticket-requires : tie.Need-ticket-requires
 ticket-requires c κs = search needs
@@ -45,7 +45,7 @@ returns-3 c =
     let a = c7 .args in
     c .docked-by2 .ensures ∙ ap (dockedBy (a .d)) (c .before .ticket .ensures)
     ∙ with-own (decode (a .image .now)) (a .d) (nameOf (a .d .pad) (a .program) 0) (a .k) (sym (c5 .docked-by .ensures) ∙ c4 .if1 .left)
-    (sym (c3 .is-recall .ensures) ∙ not-false _ (c2 .if2 .left))
+    (passed (c3 .is-recall .ensures) (c2 .if2 .left))
 
 pub docked-with-spec : {M : Type 1} → statement M
 docked-with-spec =

@@ -1,25 +1,16 @@
 -- The first field that is not good decides; where the first five are good, the last one does.
-use mathlib.Core.Path.{_≡_, sym, _∙_}
-use mathlib.Core.Bool.{Bool, true, false, not}
 use borrow.Author.Needs.{needs}
-use borrow.Author.Tests.{not-true, not-false}
+use Rattle.lists.proofs.Tests.{passed, failed}
 use Rattle.machine.specs.Operation.{fieldsOk}
 use Rattle.op_form.proofs.fields_ok.Statement.{statement}
 use Rattle.op_form.proofs.fields_ok.Tie as tie
-
--- what a call that returned b says of the test, by the branch on `!b`
-good : {b test : Bool} → b ≡ test → not b ≡ false → test ≡ true
-good {b} e h = sym e ∙ not-false b h
-
-bad : {b test : Bool} → b ≡ test → not b ≡ true → test ≡ false
-bad {b} e h = sym e ∙ not-true b h
 
 field-ok-requires : tie.Need-field-ok-requires
 field-ok-requires c κs = search needs
 
 returns : tie.Need-returns
 unfolding fieldsOk
-returns c = rw (bad (c .before .field-ok .ensures) (c .if1 .taken))
+returns c = rw (failed (c .before .field-ok .ensures) (c .if1 .taken))
 
 field-ok-requires-2 : tie.Need-field-ok-requires-2
 field-ok-requires-2 c κs = search needs
@@ -28,8 +19,8 @@ returns-2 : tie.Need-returns-2
 unfolding fieldsOk
 returns-2 c =
     rw (
-      good (c .before .before .before .field-ok .ensures) (c .before .before .if1 .left),
-      bad (c .before .field-ok2 .ensures) (c .if2 .taken),
+      passed (c .before .before .before .field-ok .ensures) (c .before .before .if1 .left),
+      failed (c .before .field-ok2 .ensures) (c .if2 .taken),
     )
 
 field-ok-requires-3 : tie.Need-field-ok-requires-3
@@ -39,9 +30,9 @@ returns-3 : tie.Need-returns-3
 unfolding fieldsOk
 returns-3 c =
     rw (
-      good (c .before .before .before .before .before .field-ok .ensures) (c .before .before .before .before .if1 .left),
-      good (c .before .before .before .field-ok2 .ensures) (c .before .before .if2 .left),
-      bad (c .before .field-ok3 .ensures) (c .if3 .taken),
+      passed (c .before .before .before .before .before .field-ok .ensures) (c .before .before .before .before .if1 .left),
+      passed (c .before .before .before .field-ok2 .ensures) (c .before .before .if2 .left),
+      failed (c .before .field-ok3 .ensures) (c .if3 .taken),
     )
 
 field-ok-requires-4 : tie.Need-field-ok-requires-4
@@ -56,11 +47,11 @@ returns-4 c =
     let c6 = c5 .before in
     let c7 = c6 .before in
     rw (
-      good (c7 .field-ok .ensures) (c6 .if1 .left),
-      good (c5 .field-ok2 .ensures) (c4 .if2 .left),
-      good (c3 .field-ok3 .ensures)
+      passed (c7 .field-ok .ensures) (c6 .if1 .left),
+      passed (c5 .field-ok2 .ensures) (c4 .if2 .left),
+      passed (c3 .field-ok3 .ensures)
           (c .before .before .if3 .left),
-      bad (c .before .field-ok4 .ensures) (c .if4 .taken),
+      failed (c .before .field-ok4 .ensures) (c .if4 .taken),
     )
 
 field-ok-requires-5 : tie.Need-field-ok-requires-5
@@ -77,12 +68,12 @@ returns-5 c =
     let c8 = c7 .before in
     let c9 = c8 .before in
     rw (
-      good (c9 .field-ok .ensures) (c8 .if1 .left),
-      good (c7 .field-ok2 .ensures) (c6 .if2 .left),
-      good (c5 .field-ok3 .ensures)
+      passed (c9 .field-ok .ensures) (c8 .if1 .left),
+      passed (c7 .field-ok2 .ensures) (c6 .if2 .left),
+      passed (c5 .field-ok3 .ensures)
           (c4 .if3 .left),
-      good (c3 .field-ok4 .ensures) (c .before .before .if4 .left),
-      bad (c .before .field-ok5 .ensures) (c .if5 .taken),
+      passed (c3 .field-ok4 .ensures) (c .before .before .if4 .left),
+      failed (c .before .field-ok5 .ensures) (c .if5 .taken),
     )
 
 field-ok-requires-6 : tie.Need-field-ok-requires-6
@@ -100,12 +91,12 @@ returns-6 c =
     let c9 = c8 .before in
     let c10 = c9 .before in
     rw (
-      good (c10 .field-ok .ensures) (c9 .if1 .left),
-      good (c8 .field-ok2 .ensures) (c7 .if2 .left),
-      good (c6 .field-ok3 .ensures)
+      passed (c10 .field-ok .ensures) (c9 .if1 .left),
+      passed (c8 .field-ok2 .ensures) (c7 .if2 .left),
+      passed (c6 .field-ok3 .ensures)
           (c5 .if3 .left),
-      good (c4 .field-ok4 .ensures) (c3 .if4 .left),
-      good (c .before .before .field-ok5 .ensures) (c .before .if5 .left),
+      passed (c4 .field-ok4 .ensures) (c3 .if4 .left),
+      passed (c .before .before .field-ok5 .ensures) (c .before .if5 .left),
     )
     (c .field-ok6 .ensures)
 

@@ -4,13 +4,15 @@ use native.Mathlib.Omega.{arith}
 use mathlib.Core.Path.{refl, sym, _∙_}
 use lib.Seq.{length-take-le}
 use borrow.Author.Needs.{needs}
-use borrow.Author.Tests.{not-true, not-false}
+use borrow.Author.Tests.{not-false}
+use Rattle.lists.proofs.Tests.{passed, failed}
 use Rattle.image.specs.Image.{decode}
 use Rattle.image_read.proofs.Places.{entries-decoded}
 use Rattle.image_find.proofs.Laws.{flattened, decoded-sized}
 use Rattle.order_lists.proofs.Laws.{listed-front}
 use Rattle.order.proofs.Numbered.{numbered}
-use Rattle.order.proofs.Rules.{programs-broken, chains-broken, entries-broken, rule-1, rule-2, last-rule}
+use Rattle.order_programs.proofs.ThreeRules.{rule-1, rule-2}
+use Rattle.order.proofs.Rules.{programs-broken, chains-broken, entries-broken, rules, last-rule}
 use Rattle.order.proofs.image_in_order.Statement.{statement}
 use Rattle.order.proofs.image_in_order.Tie as tie
 
@@ -34,8 +36,7 @@ returns c =
     let c6 = c .before .before .before .before .before .before in
     let c12 = c6 .before .before .before .before .before .before in
     let image = c12 .args .image .now in
-    programs-broken image (c12 .pre) (decode image) (sym (c6 .programs-ok .ensures .0 (decode image) (decoded-sized image) (flattened image)) ∙ not-true _
-    (c .if1 .taken))
+    programs-broken image (c12 .pre) (decode image) (failed (c6 .programs-ok .ensures .0 (decode image) (decoded-sized image) (flattened image)) (c .if1 .taken))
 
 slice-aggregate-chains-ok : tie.Need-slice-aggregate-chains-ok
 slice-aggregate-chains-ok c = search needs
@@ -67,9 +68,9 @@ returns-2 c =
     let image = c16 .args .image .now in
     let good = not-false _ (c4 .if1 .left) in
     let p = sym (c10 .programs-ok .ensures .0 (decode image) (decoded-sized image) (flattened image)) ∙ good in
-    let ix = numbered (decode image) (decoded-sized image) (rule-1 image (c16 .pre) (decode image) p) _ _ (flattened image) _
+    let ix = numbered (decode image) (decoded-sized image) (rule-1 (decode image) (rules image (c16 .pre) (decode image) p)) _ _ (flattened image) _
     (c10 .programs-ok .ensures .1 good .written) in
-    chains-broken image (c16 .pre) (decode image) (sym (c .before .chains-ok .ensures (decode image) (flattened image) ix) ∙ not-true _ (c .if2 .taken))
+    chains-broken image (c16 .pre) (decode image) (failed (c .before .chains-ok .ensures (decode image) (flattened image) ix) (c .if2 .taken))
 
 slice-aggregate-entries-ok : tie.Need-slice-aggregate-entries-ok
 slice-aggregate-entries-ok c = search needs
@@ -116,10 +117,10 @@ returns-3 c =
     let image = c22 .args .image .now in
     let good = not-false _ (c10 .if1 .left) in
     let p = sym (c16 .programs-ok .ensures .0 (decode image) (decoded-sized image) (flattened image)) ∙ good in
-    let ix = numbered (decode image) (decoded-sized image) (rule-1 image (c22 .pre) (decode image) p) _ _ (flattened image) _
+    let ix = numbered (decode image) (decoded-sized image) (rule-1 (decode image) (rules image (c22 .pre) (decode image) p)) _ _ (flattened image) _
     (c16 .programs-ok .ensures .1 good .written) in
-    let e = c .before .before .entries-ok .ensures (decode image) (flattened image) (entries-decoded image) ix (rule-2 image (c22 .pre) (decode image) p) in
-    entries-broken image (c22 .pre) (decode image) (sym (e .same) ∙ not-true _ (c .if3 .taken))
+    let e = c .before .before .entries-ok .ensures (decode image) (flattened image) (entries-decoded image) ix (rule-2 (decode image) (rules image (c22 .pre) (decode image) p)) in
+    entries-broken image (c22 .pre) (decode image) (failed (e .same) (c .if3 .taken))
 
 slice-aggregate-recalls-ok : tie.Need-slice-aggregate-recalls-ok
 slice-aggregate-recalls-ok c = search needs
@@ -167,8 +168,8 @@ recalls-ok-requires c κs =
     let good = not-false _ (c14 .if1 .left) in
     let x = c20 .programs-ok .ensures .1 good in
     let p = sym (c20 .programs-ok .ensures .0 (decode image) (decoded-sized image) (flattened image)) ∙ good in
-    let ix = numbered (decode image) (decoded-sized image) (rule-1 image (c26 .pre) (decode image) p) _ _ (flattened image) _ (x .written) in
-    let e = c6 .entries-ok .ensures (decode image) (flattened image) (entries-decoded image) ix (rule-2 image (c26 .pre) (decode image) p) in
+    let ix = numbered (decode image) (decoded-sized image) (rule-1 (decode image) (rules image (c26 .pre) (decode image) p)) _ _ (flattened image) _ (x .written) in
+    let e = c6 .entries-ok .ensures (decode image) (flattened image) (entries-decoded image) ix (rule-2 (decode image) (rules image (c26 .pre) (decode image) p)) in
     let under = listed-front _ _ _ _ _ _ (x .childrenListed) (omega (arith, x .childrenListed .most, c20 .programs-ok .kept .1 .1 .1 .0)) in
     let back = listed-front _ _ _ _ _ _ (x .recallsListed) (omega (arith, x .recallsListed .most, c20 .programs-ok .kept .1 .1 .1 .1 .0)) in
     (c26 .pre, (omega (arith, c20 .programs-ok .kept .1 .0), (e .noted (not-false _ (c4 .if3 .left)) .long, (under, back))))
@@ -185,10 +186,10 @@ returns-4 c =
     let image = c27 .args .image .now in
     let good = not-false _ (c15 .if1 .left) in
     let p = sym (c21 .programs-ok .ensures .0 (decode image) (decoded-sized image) (flattened image)) ∙ good in
-    let ix = numbered (decode image) (decoded-sized image) (rule-1 image (c27 .pre) (decode image) p) _ _ (flattened image) _
+    let ix = numbered (decode image) (decoded-sized image) (rule-1 (decode image) (rules image (c27 .pre) (decode image) p)) _ _ (flattened image) _
     (c21 .programs-ok .ensures .1 good .written) in
-    let h = sym (c12 .chains-ok .ensures (decode image) (flattened image) ix) ∙ not-false _ (c11 .if2 .left) in
-    let e = c7 .entries-ok .ensures (decode image) (flattened image) (entries-decoded image) ix (rule-2 image (c27 .pre) (decode image) p) in
+    let h = passed (c12 .chains-ok .ensures (decode image) (flattened image) ix) (c11 .if2 .left) in
+    let e = c7 .entries-ok .ensures (decode image) (flattened image) (entries-decoded image) ix (rule-2 (decode image) (rules image (c27 .pre) (decode image) p)) in
     let y = not-false _ (c5 .if3 .left) in
     c .recalls-ok .ensures (decode image) (record { flat = flattened image; entries = entries-decoded image; numbered = ix; noted = e .noted y })
     ∙ last-rule image (c27 .pre) (decode image) p h (sym (e .same) ∙ y)

@@ -3,8 +3,8 @@ use Prim.Native.Nat.{ℕ, _-_, _≤_, _<_}
 use native.Mathlib.Omega.{arith}
 use mathlib.Core.Path.{sym, ap, _∙_}
 use lib.ListN.{getD}
+use borrow.Author.Count.{below-more}
 use borrow.Author.Needs.{needs}
-use Rattle.lists.proofs.Loops.{so-far}
 use Rattle.tables.specs.declared.Ticket.{Ticket}
 use Rattle.tables.specs.Kinds.{isChild}
 use Rattle.tables.specs.Names.{free}
@@ -58,7 +58,7 @@ loop-again c =
     let c6 = c .before .before .before .before .before .before in
     let c8 = c6 .before .before in
     let c10 = c8 .before .before in
-    (omega arith, so-far (c8 .loop .i) (c8 .loop .inv .1) (no-child (decode (c10 .args .image .now)) (c8 .loop .i) (getD (ticketsIn (c10 .args .image .now)) (c8 .loop .i) free) (ap (λ (k : Ticket). isChild (lookup (decode (c10 .args .image .now)) (k .other) .kind)) (sym (c6 .ticket-at .ensures)) ∙ ap (λ (k : Ticket). isChild (k .kind)) (sym (c .before .before .ticket .ensures)) ∙ sym (c .before .is-child .ensures) ∙ c .if2 .left)))
+    (omega arith, below-more _ (c8 .loop .i) (c8 .loop .inv .1) (no-child (decode (c10 .args .image .now)) (c8 .loop .i) (getD (ticketsIn (c10 .args .image .now)) (c8 .loop .i) free) (ap (λ (k : Ticket). isChild (lookup (decode (c10 .args .image .now)) (k .other) .kind)) (sym (c6 .ticket-at .ensures)) ∙ ap (λ (k : Ticket). isChild (k .kind)) (sym (c .before .before .ticket .ensures)) ∙ sym (c .before .is-child .ensures) ∙ c .if2 .left)))
 
 loop-less-2 : tie.Need-loop-less-2 Inv-loop μ-loop
 loop-less-2 c = search needs
@@ -67,7 +67,7 @@ loop-again-2 : tie.Need-loop-again-2 Inv-loop μ-loop
 loop-again-2 c =
     let c4 = c .before .before .before .before in
     let c6 = c4 .before .before in
-    (omega arith, so-far (c4 .loop .i) (c4 .loop .inv .1) (not-far (decode (c6 .args .image .now)) (decoded-sized (c6 .args .image .now)) (c4 .loop .i) (getD (ticketsIn (c6 .args .image .now)) (c4 .loop .i) free) (ap (isFar (c4 .loop .i)) (sym (c .before .before .ticket-at .ensures)) ∙ sym (c .before .is-far .ensures) ∙ c .if1 .left)))
+    (omega arith, below-more _ (c4 .loop .i) (c4 .loop .inv .1) (not-far (decode (c6 .args .image .now)) (decoded-sized (c6 .args .image .now)) (c4 .loop .i) (getD (ticketsIn (c6 .args .image .now)) (c4 .loop .i) free) (ap (isFar (c4 .loop .i)) (sym (c .before .before .ticket-at .ensures)) ∙ sym (c .before .is-far .ensures) ∙ c .if1 .left)))
 
 returns-2 : tie.Need-returns-2 Inv-loop μ-loop
 returns-2 c =

@@ -4,10 +4,10 @@ use native.Mathlib.Omega.{arith}
 use mathlib.Core.Path.{_≡_, sym, ap, subst, _∙_}
 use mathlib.Core.Bool.{true}
 use lib.ListN.{length, getD, length-replicate}
+use borrow.Author.Count.{below-more}
 use borrow.Author.Needs.{needs}
 use borrow.Author.Tests.{not-true, not-false}
 use Rattle.lists.proofs.Tests.{no-true}
-use Rattle.lists.proofs.Loops.{so-far}
 use Rattle.tables.specs.Kinds.{isChild}
 use Rattle.tables.specs.Names.{free}
 use Rattle.image_read.specs.Places.{ticketsIn}
@@ -157,7 +157,7 @@ loop-again c =
     let p = c .before .before .before .before .place-of .ensures in (
       omega arith,
       (
-        so-far (c10 .loop .i) (c10 .loop .inv .1 .0)
+        below-more _ (c10 .loop .i) (c10 .loop .inv .1 .0)
             (by-parent ks (s .args .numbers .now) q _ (c7 .wide .ensures) _ (c6 .ticket-at .ensures) child _ p (omega (arith, c .before .before .before .if1 .left)) _
             (c .before .before .ticket-at2 .ensures) _ (c .before .parent-ok .ensures) ∙ not-false _ (c .if2 .left)),
         filled-at 256 256 (λ m. upOf (s .args .numbers .now) (getD ks m free)) (s .args .children .now) (c10 .loop .i) (c10 .loop .up) (c10 .loop .inv .1 .1)

@@ -5,9 +5,9 @@ use mathlib.Core.Path.{_≡_, sym}
 use mathlib.Core.Bool.{true}
 use lib.Dec.{ltb}
 use lib.ListN.{length, getD}
+use borrow.Author.Count.{below-more}
 use borrow.Author.Needs.{needs}
 use Rattle.lists.proofs.Tests.{implies-intro}
-use Rattle.lists.proofs.Loops.{so-far}
 use Rattle.tables.specs.Kinds.{isChild}
 use Rattle.tables.specs.Names.{free}
 use Rattle.image_places.specs.Walk.{endFrom}
@@ -58,7 +58,7 @@ loop-again c =
     let c5 = c .before .before .before .before .before in
     let s = c5 .before .before .before in (
       omega arith,
-      so-far (c5 .loop .i) (c5 .loop .inv .1)
+      below-more _ (c5 .loop .i) (c5 .loop .inv .1)
           (head-found (s .args .up .now) (getD (s .args .children .now) (c5 .loop .i) 0) _ (c .before .before .wide .ensures) _ (c .before .end-from .ensures) (omega (arith, c .if1 .left))),
     )
 

@@ -1,7 +1,7 @@
-use mathlib.Core.Path.{sym, _∙_}
-use borrow.Author.Tests.{not-true, not-false}
+use mathlib.Core.Path.{_∙_}
 use borrow.Author.Needs.{needs}
 use Rattle.lists.specs.Tests.{implies}
+use Rattle.lists.proofs.Tests.{passed, failed}
 use Rattle.order_programs.specs.Parts.{grantOk}
 use Rattle.order_programs.proofs.grant_ok.Statement.{statement}
 use Rattle.order_programs.proofs.grant_ok.Tie as tie
@@ -11,7 +11,7 @@ is-grant-requires c κs = search needs
 
 returns : tie.Need-returns
 unfolding grantOk implies
-returns c = rw (sym (c .before .is-grant .ensures) ∙ not-true _ (c .if1 .taken))
+returns c = rw (failed (c .before .is-grant .ensures) (c .if1 .taken))
 
 span-ok-requires : tie.Need-span-ok-requires
 span-ok-requires c κs = search needs
@@ -21,9 +21,8 @@ unfolding grantOk implies
 returns-2 c =
     let c3 = c .before .before .before in
     rw (
-      sym (c3 .is-grant .ensures) ∙ not-false _ (c .before .before .if1 .left),
-      sym (c .before .span-ok .ensures) ∙ not-true _
-          (c .if2 .taken),
+      passed (c3 .is-grant .ensures) (c .before .before .if1 .left),
+      failed (c .before .span-ok .ensures) (c .if2 .taken),
     )
 
 is-head-requires : tie.Need-is-head-requires
@@ -36,9 +35,9 @@ returns-3 c =
     let c4 = c3 .before in
     let c5 = c4 .before in
     rw (
-      sym (c5 .is-grant .ensures) ∙ not-false _ (c4 .if1 .left),
-      sym (c3 .span-ok .ensures) ∙ not-false _ (c .before .before .if2 .left),
-      sym (c .before .is-head .ensures) ∙ not-true _ (c .if3 .taken),
+      passed (c5 .is-grant .ensures) (c4 .if1 .left),
+      passed (c3 .span-ok .ensures) (c .before .before .if2 .left),
+      failed (c .before .is-head .ensures) (c .if3 .taken),
     )
 
 is-requires : tie.Need-is-requires
@@ -53,10 +52,9 @@ returns-4 c =
     let c6 = c5 .before in
     let c7 = c6 .before in
     c .is .ensures ∙ rw (
-      sym (c7 .is-grant .ensures) ∙ not-false _ (c6 .if1 .left),
-      sym (c5 .span-ok .ensures) ∙ not-false _ (c4 .if2 .left),
-      sym
-          (c3 .is-head .ensures) ∙ not-false _ (c .before .before .if3 .left),
+      passed (c7 .is-grant .ensures) (c6 .if1 .left),
+      passed (c5 .span-ok .ensures) (c4 .if2 .left),
+      passed (c3 .is-head .ensures) (c .before .before .if3 .left),
     )
 
 pub grant-ok-spec : {M : Type 1} → statement M

@@ -3,8 +3,8 @@ use Prim.Native.Nat.{ℕ, _-_, _≤_, _<_}
 use native.Mathlib.Omega.{arith}
 use mathlib.Core.Path.{_≡_}
 use lib.ListN.{length, getD}
+use borrow.Author.Count.{below-more}
 use borrow.Author.Needs.{needs}
-use Rattle.lists.proofs.Loops.{so-far}
 use Rattle.order_programs.proofs.Numbers.{found-old, none-old}
 use Rattle.order_programs.proofs.is_new.Statement.{statement}
 use Rattle.order_programs.proofs.is_new.Tie as tie
@@ -38,7 +38,7 @@ loop-less c = search needs
 loop-again : tie.Need-loop-again Inv-loop μ-loop
 loop-again c =
     let c3 = c .before .before .before in
-    (omega arith, so-far (c3 .loop .i) (c3 .loop .inv .1) (c .if1 .left))
+    (omega arith, below-more _ (c3 .loop .i) (c3 .loop .inv .1) (c .if1 .left))
 
 returns-2 : tie.Need-returns-2 Inv-loop μ-loop
 returns-2 c =

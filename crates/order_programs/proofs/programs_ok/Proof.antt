@@ -5,8 +5,7 @@ use mathlib.Core.Path.{_≡_, sym, ap, _∙_}
 use mathlib.Core.Bool.{Bool, _&&_}
 use lib.ListN.{length, length-replicate}
 use borrow.Author.Needs.{needs}
-use borrow.Author.Tests.{not-true, not-false}
-use Rattle.lists.proofs.Tests.{contradiction, and-false}
+use Rattle.lists.proofs.Tests.{contradiction, and-false, passed, failed}
 use Rattle.tables.specs.Order.{t1, t2, t4}
 use Rattle.image.specs.Image.{kindsOk}
 use Rattle.order_programs.proofs.Passing.{Passed, passed-none, bad-kind, passed-free, bad-ticket, passed-live, all-pass, all-indexed}
@@ -116,7 +115,7 @@ returns-2 c =
     let c15 = c9 .before .before .before .before .before .before in
     let image = c15 .args .image .now in
     let bad = bad-ticket image _ _ _ _ _ _ _ _ (c9 .loop .inv .1) (c8 .loop-test .taken) _ (c7 .kind-at .ensures) (omega (arith, c6 .if1 .left))
-    (c5 .if2 .taken) _ (c4 .ticket-at .ensures) (sym (c .before .before .ticket-ok .ensures) ∙ not-true _ (c .before .if3 .taken)) in
+    (c5 .if2 .taken) _ (c4 .ticket-at .ensures) (failed (c .before .before .ticket-ok .ensures) (c .before .if3 .taken)) in
     (λ t z flat. c .refused2 .ensures ∙ sym (ap (λ (b : Bool). kindsOk image && b) (bad t z flat) ∙ and-false (kindsOk image)), λ e. contradiction e (c .refused2 .ensures))
 
 mul-numbers : tie.Need-mul-numbers Inv-loop μ-loop
@@ -220,7 +219,7 @@ loop-again c =
     let c14 = c13 .before in (
       omega (arith, c13 .loop-test .taken),
       passed-live _ _ _ _ _ _ _ _ _ (c14 .loop .inv .1) (c13 .loop-test .taken) _ (c12 .kind-at .ensures)
-          (omega (arith, c11 .if1 .left)) (c10 .if2 .taken) _ (c9 .ticket-at .ensures) (sym (c7 .ticket-ok .ensures) ∙ not-false _ (c6 .if3 .left)) _ _ _
+          (omega (arith, c11 .if1 .left)) (c10 .if2 .taken) _ (c9 .ticket-at .ensures) (passed (c7 .ticket-ok .ensures) (c6 .if3 .left)) _ _ _
           (c5 .is-taken .ensures) (c3 .is-child .ensures) (c .before .is-recall .ensures) _ _ _ (c4 .one-if .ensures .0) (c .before .before .one-if2 .ensures .0)
           (c .one-if3 .ensures .0),
     )

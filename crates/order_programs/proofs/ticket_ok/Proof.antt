@@ -3,8 +3,8 @@ use Prim.Native.Nat.{ℕ}
 use mathlib.Core.Path.{sym, ap, _∙_}
 use mathlib.Core.Bool.{_&&_}
 use borrow.Author.Needs.{needs}
-use borrow.Author.Tests.{not-true, not-false}
 use Rattle.lists.specs.Tests.{between}
+use Rattle.lists.proofs.Tests.{passed, failed}
 use Rattle.order_programs.specs.Parts.{isNew, before, ticketOk}
 use Rattle.order_programs.proofs.ticket_ok.Statement.{statement}
 use Rattle.order_programs.proofs.ticket_ok.Tie as tie
@@ -36,8 +36,7 @@ returns c =
     let c3 = c .before .before .before in
     let c6 = c3 .before .before .before in
     let s = c6 .args in
-    let asked = ap (λ (l : ℕ). between 1 l (s .k .number) && isNew (s .k .number) (before (s .at) (s .numbers .now))) (sym (c3 .last-at .ensures)) ∙ sym
-    (c .before .number-ok .ensures) ∙ not-true _ (c .if1 .taken) in
+    let asked = ap (λ (l : ℕ). between 1 l (s .k .number) && isNew (s .k .number) (before (s .at) (s .numbers .now))) (sym (c3 .last-at .ensures)) ∙ failed (c .before .number-ok .ensures) (c .if1 .taken) in
     rw asked
 
 cast-t16 : tie.Need-cast-t16
@@ -55,8 +54,7 @@ returns-2 c =
     let c4 = c .before .before .before .before in
     let c7 = c4 .before .before .before in
     let s = c7 .args in
-    let asked = ap (λ (l : ℕ). between 1 l (s .k .number) && isNew (s .k .number) (before (s .at) (s .numbers .now))) (sym (c4 .last-at .ensures)) ∙ sym
-    (c .before .before .number-ok .ensures) ∙ not-false _ (c .before .if1 .left) in
+    let asked = ap (λ (l : ℕ). between 1 l (s .k .number) && isNew (s .k .number) (before (s .at) (s .numbers .now))) (sym (c4 .last-at .ensures)) ∙ passed (c .before .before .number-ok .ensures) (c .before .if1 .left) in
     rw asked (c .grant-ok .ensures)
 
 pub ticket-ok-spec : {M : Type 1} → statement M

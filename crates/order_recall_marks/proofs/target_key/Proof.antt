@@ -1,8 +1,8 @@
 -- `target_key`: not a recall, 256; a recall, the key of the place that was found for its target.
 use Prim.Native.Nat.{ℕ}
-use mathlib.Core.Path.{sym, ap, _∙_}
+use mathlib.Core.Path.{ap, _∙_}
 use borrow.Author.Needs.{needs}
-use borrow.Author.Tests.{not-true, not-false}
+use Rattle.lists.proofs.Tests.{passed, failed}
 use Rattle.order_recall_marks.specs.Keys.{keyOf}
 use Rattle.order_recall_marks.proofs.KeySteps.{key-none, key-recall}
 use Rattle.order_recall_marks.proofs.target_key.Statement.{statement}
@@ -15,7 +15,7 @@ returns : tie.Need-returns
 returns c =
     let c1 = c .before in
     let c3 = c1 .before .before in
-    key-none (c3 .args .numbers .now) (c3 .args .k) (sym (c1 .is-recall .ensures) ∙ not-true (c1 .is-recall .result) (c .if1 .taken))
+    key-none (c3 .args .numbers .now) (c3 .args .k) (failed (c1 .is-recall .ensures) (c .if1 .taken))
 
 place-of-requires : tie.Need-place-of-requires
 place-of-requires c κs = search needs
@@ -29,7 +29,7 @@ returns-2 c =
     let c4 = c3 .before in
     let c6 = c4 .before .before in
     c .key-of .ensures ∙ ap (λ (p : ℕ). keyOf p (c6 .args .k .other)) (c .before .place-of .ensures) ∙ key-recall (c6 .args .numbers .now)
-    (c6 .args .k) (sym (c4 .is-recall .ensures) ∙ not-false (c4 .is-recall .result) (c3 .if1 .left))
+    (c6 .args .k) (passed (c4 .is-recall .ensures) (c3 .if1 .left))
 
 pub target-key-spec : {M : Type 1} → statement M
 target-key-spec =

@@ -5,9 +5,10 @@ use native.Mathlib.Omega.{arith}
 use mathlib.Core.Path.{subst}
 use lib.ListN.{length}
 use borrow.Author.Needs.{needs}
+use Rattle.lists.proofs.Tests.{passed, failed}
 use Rattle.tables.specs.declared.Tables.{Tables}
 use Rattle.order_recalls.specs.Recalls.{LaidOut}
-use Rattle.order_recalls.proofs.OneRecall.{so, not-so, pick, has-key, Held, held-more, held-end, no-grant, bad-grant, near-none, near-bad, near-ok, not-given, far-none, far-bad, far-ok}
+use Rattle.order_recalls.proofs.OneRecall.{pick, has-key, Held, held-more, held-end, no-grant, bad-grant, near-none, near-bad, near-ok, not-given, far-none, far-bad, far-ok}
 use Rattle.order_recalls.proofs.each_holds.Statement.{statement}
 use Rattle.order_recalls.proofs.each_holds.Tie as tie
 
@@ -95,7 +96,7 @@ returns-2 c =
     let c17 = c11 .before .before .before .before .before .before in
     let w = pick {image = c17 .args .image .now} (c17 .pre .1 .1 .1 .0) (c17 .pre .1 .1 .1 .1) (c11 .loop-test .taken) (c9 .wide .ensures)
     (c7 .ticket-at .ensures) (c6 .own-name .ensures) (c4 .place-of .ensures) in
-    λ t x. bad-grant x w (omega (arith, c3 .if1 .left)) (c .before .before .ticket-at2 .ensures) (not-so (c .before .recall-parent-ok .ensures) (c .if2 .taken))
+    λ t x. bad-grant x w (omega (arith, c3 .if1 .left)) (c .before .before .ticket-at2 .ensures) (failed (c .before .recall-parent-ok .ensures) (c .if2 .taken))
 
 returns-3 : tie.Need-returns-3 Inv-loop μ-loop
 returns-3 c =
@@ -111,7 +112,7 @@ returns-3 c =
     let c21 = c15 .before .before .before .before .before .before in
     let w = pick {image = c21 .args .image .now} (c21 .pre .1 .1 .1 .0) (c21 .pre .1 .1 .1 .1) (c15 .loop-test .taken) (c13 .wide .ensures)
     (c11 .ticket-at .ensures) (c10 .own-name .ensures) (c8 .place-of .ensures) in
-    λ t x. near-none x w (omega (arith, c7 .if1 .left)) (c6 .ticket-at2 .ensures) (so (c5 .recall-parent-ok .ensures) (c4 .if2 .left)) (c .before .if3 .taken) (c .if4 .taken)
+    λ t x. near-none x w (omega (arith, c7 .if1 .left)) (c6 .ticket-at2 .ensures) (passed (c5 .recall-parent-ok .ensures) (c4 .if2 .left)) (c .before .if3 .taken) (c .if4 .taken)
 
 ticket-at-requires-3 : tie.Need-ticket-at-requires-3 Inv-loop μ-loop
 ticket-at-requires-3 c κs =
@@ -144,8 +145,8 @@ returns-4 c =
     let c24 = c18 .before .before .before .before .before .before in
     let w = pick {image = c24 .args .image .now} (c24 .pre .1 .1 .1 .0) (c24 .pre .1 .1 .1 .1) (c18 .loop-test .taken) (c16 .wide .ensures)
     (c14 .ticket-at .ensures) (c13 .own-name .ensures) (c11 .place-of .ensures) in
-    λ t x. near-bad x w (omega (arith, c10 .if1 .left)) (c9 .ticket-at2 .ensures) (so (c8 .recall-parent-ok .ensures) (c7 .if2 .left)) (c4 .if3 .taken)
-    (omega (arith, c3 .if4 .left, has-key w)) (c .before .before .ticket-at3 .ensures) (not-so (c .before .is-child-of .ensures) (c .if5 .taken))
+    λ t x. near-bad x w (omega (arith, c10 .if1 .left)) (c9 .ticket-at2 .ensures) (passed (c8 .recall-parent-ok .ensures) (c7 .if2 .left)) (c4 .if3 .taken)
+    (omega (arith, c3 .if4 .left, has-key w)) (c .before .before .ticket-at3 .ensures) (failed (c .before .is-child-of .ensures) (c .if5 .taken))
 
 loop-less : tie.Need-loop-less Inv-loop μ-loop
 loop-less c =
@@ -171,8 +172,8 @@ loop-again c =
     (c14 .ticket-at .ensures) (c13 .own-name .ensures) (c11 .place-of .ensures) in (
       omega arith,
       λ t x. held-more x w (c24 .args .recalls .now) (c19 .loop .i) (c16 .wide .ensures) (c19 .loop .inv .1 t x)
-          (near-ok x w (omega (arith, c10 .if1 .left)) (c9 .ticket-at2 .ensures) (so (c8 .recall-parent-ok .ensures) (c7 .if2 .left)) (c4 .if3 .taken)
-          (omega (arith, c3 .if4 .left, has-key w)) (c .before .before .ticket-at3 .ensures) (so (c .before .is-child-of .ensures) (c .if5 .left))),
+          (near-ok x w (omega (arith, c10 .if1 .left)) (c9 .ticket-at2 .ensures) (passed (c8 .recall-parent-ok .ensures) (c7 .if2 .left)) (c4 .if3 .taken)
+          (omega (arith, c3 .if4 .left, has-key w)) (c .before .before .ticket-at3 .ensures) (passed (c .before .is-child-of .ensures) (c .if5 .left))),
     )
 
 was-given-requires : tie.Need-was-given-requires Inv-loop μ-loop
@@ -194,8 +195,8 @@ returns-5 c =
     let c22 = c16 .before .before .before .before .before .before in
     let w = pick {image = c22 .args .image .now} (c22 .pre .1 .1 .1 .0) (c22 .pre .1 .1 .1 .1) (c16 .loop-test .taken) (c14 .wide .ensures)
     (c12 .ticket-at .ensures) (c11 .own-name .ensures) (c9 .place-of .ensures) in
-    λ t x. not-given x w (omega (arith, c8 .if1 .left)) (c7 .ticket-at2 .ensures) (so (c6 .recall-parent-ok .ensures) (c5 .if2 .left)) (c .before .before .if3 .left)
-    (not-so (c .before .was-given .ensures) (c .if6 .taken))
+    λ t x. not-given x w (omega (arith, c8 .if1 .left)) (c7 .ticket-at2 .ensures) (passed (c6 .recall-parent-ok .ensures) (c5 .if2 .left)) (c .before .before .if3 .left)
+    (failed (c .before .was-given .ensures) (c .if6 .taken))
 
 note-of-requires : tie.Need-note-of-requires Inv-loop μ-loop
 note-of-requires c κs =
@@ -228,8 +229,8 @@ returns-6 c =
     let c27 = c21 .before .before .before .before .before .before in
     let w = pick {image = c27 .args .image .now} (c27 .pre .1 .1 .1 .0) (c27 .pre .1 .1 .1 .1) (c21 .loop-test .taken) (c19 .wide .ensures)
     (c17 .ticket-at .ensures) (c16 .own-name .ensures) (c14 .place-of .ensures) in
-    λ t x. far-bad x w (omega (arith, c13 .if1 .left)) (c12 .ticket-at2 .ensures) (so (c11 .recall-parent-ok .ensures) (c10 .if2 .left)) (c7 .if3 .left)
-    (so (c6 .was-given .ensures) (c5 .if6 .left)) (c4 .note-of .result) (c4 .note-of .ensures) (c .before .before .entry-at .ensures) (c .before .far-entry-ok .ensures) (c .if8 .taken)
+    λ t x. far-bad x w (omega (arith, c13 .if1 .left)) (c12 .ticket-at2 .ensures) (passed (c11 .recall-parent-ok .ensures) (c10 .if2 .left)) (c7 .if3 .left)
+    (passed (c6 .was-given .ensures) (c5 .if6 .left)) (c4 .note-of .result) (c4 .note-of .ensures) (c .before .before .entry-at .ensures) (c .before .far-entry-ok .ensures) (c .if8 .taken)
 
 loop-less-2 : tie.Need-loop-less-2 Inv-loop μ-loop
 loop-less-2 c =
@@ -257,8 +258,8 @@ loop-again-2 c =
     (c17 .ticket-at .ensures) (c16 .own-name .ensures) (c14 .place-of .ensures) in (
       omega arith,
       λ t x. held-more x w (c27 .args .recalls .now) (c22 .loop .i) (c19 .wide .ensures) (c22 .loop .inv .1 t x)
-          (far-ok x w (omega (arith, c13 .if1 .left)) (c12 .ticket-at2 .ensures) (so (c11 .recall-parent-ok .ensures) (c10 .if2 .left)) (c7 .if3 .left)
-          (so (c6 .was-given .ensures) (c5 .if6 .left)) (c4 .note-of .result) (c4 .note-of .ensures) (c .before .before .entry-at .ensures) (c .before .far-entry-ok .ensures)
+          (far-ok x w (omega (arith, c13 .if1 .left)) (c12 .ticket-at2 .ensures) (passed (c11 .recall-parent-ok .ensures) (c10 .if2 .left)) (c7 .if3 .left)
+          (passed (c6 .was-given .ensures) (c5 .if6 .left)) (c4 .note-of .result) (c4 .note-of .ensures) (c .before .before .entry-at .ensures) (c .before .far-entry-ok .ensures)
           (c .if8 .left)),
     )
 
@@ -286,8 +287,8 @@ loop-again-3 c =
     (c14 .ticket-at .ensures) (c13 .own-name .ensures) (c11 .place-of .ensures) in (
       omega arith,
       λ t x. held-more x w (c24 .args .recalls .now) (c19 .loop .i) (c16 .wide .ensures) (c19 .loop .inv .1 t x)
-          (far-none x w (omega (arith, c10 .if1 .left)) (c9 .ticket-at2 .ensures) (so (c8 .recall-parent-ok .ensures) (c7 .if2 .left)) (c4 .if3 .left)
-          (so (c3 .was-given .ensures) (c .before .before .if6 .left)) (subst (λ (m : ℕ). 256 ≤ m) (c .before .note-of .ensures) (c .if7 .left))),
+          (far-none x w (omega (arith, c10 .if1 .left)) (c9 .ticket-at2 .ensures) (passed (c8 .recall-parent-ok .ensures) (c7 .if2 .left)) (c4 .if3 .left)
+          (passed (c3 .was-given .ensures) (c .before .before .if6 .left)) (subst (λ (m : ℕ). 256 ≤ m) (c .before .note-of .ensures) (c .if7 .left))),
     )
 
 returns-7 : tie.Need-returns-7 Inv-loop μ-loop

@@ -3,11 +3,11 @@ use native.Mathlib.Omega.{arith}
 use mathlib.Core.Path.{subst, _∙_}
 use borrow.Author.Needs.{needs}
 use borrow.Author.Tests.{not-false}
+use Rattle.lists.proofs.Tests.{passed, failed}
 use Rattle.image_read.specs.Places.{ticketsIn}
 use Rattle.image_read.proofs.Places.{tickets-long}
 use Rattle.order_recall_marks.specs.Keys.{Marked}
 use Rattle.order_recall_marks.proofs.Laws.{keys-listed}
-use Rattle.order_recalls.proofs.OneRecall.{so, not-so}
 use Rattle.order_recalls.proofs.Whole.{targets-fit, not-each, two-places, two-dead, whole}
 use Rattle.order_recalls.proofs.NoRecalls.{no-recalls}
 use Rattle.order_recalls.proofs.recalls_ok.Statement.{statement}
@@ -28,7 +28,7 @@ each-holds-requires : tie.Need-each-holds-requires
 each-holds-requires c κs = search needs
 
 returns-2 : tie.Need-returns-2
-returns-2 c = λ t x. not-each x (not-so (c .before .each-holds .ensures t x) (c .if2 .taken))
+returns-2 c = λ t x. not-each x (failed (c .before .each-holds .ensures t x) (c .if2 .taken))
 
 mark-places-requires : tie.Need-mark-places-requires
 mark-places-requires c κs =
@@ -48,7 +48,7 @@ returns-3 c =
     let c15 = c8 .before .before .before .before .before .before .before in
     let c16 = c15 .before in
     λ t x. two-places x (targets-fit (c16 .args .image .now) (λ i. omega (arith, c15 .shared-slice-known .given i))) (c8 .write-keys .ensures)
-    (not-so (c .before .mark-places .ensures .once) (c .if3 .taken))
+    (failed (c .before .mark-places .ensures .once) (c .if3 .taken))
 
 dead-once-requires : tie.Need-dead-once-requires
 dead-once-requires c κs =
@@ -65,7 +65,7 @@ returns-4 c =
     let c18 = c11 .before .before .before .before .before .before .before in
     let c19 = c18 .before in
     λ t x. two-dead x (targets-fit (c19 .args .image .now) (λ i. omega (arith, c18 .shared-slice-known .given i))) (c11 .write-keys .ensures)
-    (not-so (c .before .dead-once .ensures) (c .if4 .taken))
+    (failed (c .before .dead-once .ensures) (c .if4 .taken))
 
 children-marked-requires : tie.Need-children-marked-requires
 children-marked-requires c κs =
@@ -85,9 +85,9 @@ returns-5 c =
     let image = c21 .args .image .now in
     λ t x. c .children-marked .ensures (ticketsIn image) (tickets-long image) (c21 .pre .1 .1 .1 .0)
     ∙ whole x (targets-fit image (λ i. omega (arith, c20 .shared-slice-known .given i))) (c13 .write-keys .ensures)
-    (so (c10 .each-holds .ensures t x) (c9 .if2 .left)) _
+    (passed (c10 .each-holds .ensures t x) (c9 .if2 .left)) _
     (subst (Marked _ _) (not-false (c6 .mark-places .result) (c5 .if3 .left)) (c6 .mark-places .ensures))
-    (so (c3 .dead-once .ensures) (c .before .before .if4 .left))
+    (passed (c3 .dead-once .ensures) (c .before .before .if4 .left))
 
 pub recalls-ok-spec : {M : Type 1} → statement M
 recalls-ok-spec =

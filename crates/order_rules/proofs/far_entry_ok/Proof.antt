@@ -1,7 +1,8 @@
-use mathlib.Core.Path.{sym, _∙_}
+use mathlib.Core.Path.{_∙_}
 use borrow.Author.Tests.{not-true, not-false}
 use borrow.Author.Needs.{needs}
 use Rattle.lists.specs.Tests.{implies}
+use Rattle.lists.proofs.Tests.{passed, failed}
 use Rattle.order_rules.proofs.Spans.{of-spans}
 use Rattle.order_rules.proofs.far_entry_ok.Statement.{statement}
 use Rattle.order_rules.proofs.far_entry_ok.Tie as tie
@@ -18,7 +19,7 @@ unfolding implies
 returns-2 c =
     let c4 = c .before .before .before .before in
     let c6 = c4 .before .before in
-    rw (sym (c .before .is .ensures) ∙ not-true _ (c .if2 .taken), not-false (c6 .args .e .live) (c4 .if1 .left))
+    rw (failed (c .before .is .ensures) (c .if2 .taken), not-false (c6 .args .e .live) (c4 .if1 .left))
 
 of-entry-requires : tie.Need-of-entry-requires
 of-entry-requires c κs = search needs
@@ -37,7 +38,7 @@ returns-3 c =
     let c7 = c4 .before .before .before in
     let c9 = c7 .before .before in
     of-spans _ _ _ _ (c .before .before .of-entry .ensures) (c .before .of-ticket .ensures) (c .is-inside .ensures) ∙ rw
-    (sym (c4 .is .ensures) ∙ not-false _ (c3 .if2 .left), not-false (c9 .args .e .live) (c7 .if1 .left))
+    (passed (c4 .is .ensures) (c3 .if2 .left), not-false (c9 .args .e .live) (c7 .if1 .left))
 
 pub far-entry-ok-spec : {M : Type 1} → statement M
 far-entry-ok-spec =

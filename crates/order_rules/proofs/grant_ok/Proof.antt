@@ -1,6 +1,6 @@
-use mathlib.Core.Path.{sym, _∙_}
-use borrow.Author.Tests.{eq-eqb, ne-eqb, not-true, not-false}
+use borrow.Author.Tests.{eq-eqb, ne-eqb}
 use borrow.Author.Needs.{needs}
+use Rattle.lists.proofs.Tests.{passed, failed}
 use Rattle.tables.specs.Order.{grantOk}
 use Rattle.order_rules.proofs.grant_ok.Statement.{statement}
 use Rattle.order_rules.proofs.grant_ok.Tie as tie
@@ -10,14 +10,14 @@ kind-ok-requires c κs = search needs
 
 returns : tie.Need-returns
 unfolding grantOk
-returns c = rw (sym (c .before .kind-ok .ensures) ∙ not-true _ (c .if1 .taken))
+returns c = rw (failed (c .before .kind-ok .ensures) (c .if1 .taken))
 
 returns-2 : tie.Need-returns-2
 unfolding grantOk
 returns-2 c =
     let c3 = c .before .before .before in
     let c4 = c3 .before in
-    rw (sym (c4 .kind-ok .ensures) ∙ not-false _ (c3 .if1 .left), ne-eqb _ _ (c .if2 .taken))
+    rw (passed (c4 .kind-ok .ensures) (c3 .if1 .left), ne-eqb _ _ (c .if2 .taken))
 
 returns-3 : tie.Need-returns-3
 unfolding grantOk
@@ -25,7 +25,7 @@ returns-3 c =
     let c3 = c .before .before .before in
     let c6 = c3 .before .before .before in
     let c7 = c6 .before in
-    rw (sym (c7 .kind-ok .ensures) ∙ not-false _ (c6 .if1 .left), eq-eqb _ _ (c3 .if2 .left), ne-eqb _ _ (c .if3 .taken))
+    rw (passed (c7 .kind-ok .ensures) (c6 .if1 .left), eq-eqb _ _ (c3 .if2 .left), ne-eqb _ _ (c .if3 .taken))
 
 returns-4 : tie.Need-returns-4
 unfolding grantOk
@@ -34,7 +34,7 @@ returns-4 c =
     let c7 = c4 .before .before .before in
     let c10 = c7 .before .before .before in
     let c11 = c10 .before in
-    rw (sym (c11 .kind-ok .ensures) ∙ not-false _ (c10 .if1 .left), eq-eqb _ _ (c7 .if2 .left), eq-eqb _ _ (c4 .if3 .left))
+    rw (passed (c11 .kind-ok .ensures) (c10 .if1 .left), eq-eqb _ _ (c7 .if2 .left), eq-eqb _ _ (c4 .if3 .left))
 
 pub grant-ok-spec : {M : Type 1} → statement M
 grant-ok-spec = tie.close (tie.spec kind-ok-requires returns returns-2 returns-3 returns-4)

@@ -1,6 +1,7 @@
-use mathlib.Core.Path.{sym, _∙_}
+use mathlib.Core.Path.{_∙_}
 use borrow.Author.Tests.{not-true, not-false}
 use borrow.Author.Needs.{needs}
+use Rattle.lists.proofs.Tests.{passed, failed}
 use Rattle.tables.specs.Order.{parentEntryOk}
 use Rattle.order_rules.proofs.Spans.{of-spans}
 use Rattle.order_rules.proofs.parent_entry_ok.Statement.{statement}
@@ -18,7 +19,7 @@ unfolding parentEntryOk
 returns-2 c =
     let c3 = c .before .before .before in
     let c5 = c3 .before .before in
-    rw (sym (c .before .can-pass .ensures) ∙ not-true _ (c .if2 .taken), not-false (c5 .args .parent .live) (c3 .if1 .left))
+    rw (failed (c .before .can-pass .ensures) (c .if2 .taken), not-false (c5 .args .parent .live) (c3 .if1 .left))
 
 of-entry-requires : tie.Need-of-entry-requires
 of-entry-requires c κs = search needs
@@ -37,7 +38,7 @@ returns-3 c =
     let c6 = c4 .before .before in
     let c8 = c6 .before .before in
     of-spans _ _ _ _ (c .before .before .of-entry .ensures) (c .before .of-entry2 .ensures) (c .is-inside .ensures) ∙ rw
-    (sym (c4 .can-pass .ensures) ∙ not-false _ (c3 .if2 .left), not-false (c8 .args .parent .live) (c6 .if1 .left))
+    (passed (c4 .can-pass .ensures) (c3 .if2 .left), not-false (c8 .args .parent .live) (c6 .if1 .left))
 
 pub parent-entry-ok-spec : {M : Type 1} → statement M
 parent-entry-ok-spec =
