@@ -2,7 +2,7 @@
 -- and then written, or refused.
 use Prim.Native.Nat.{ℕ, _+_, _-_, _≤_, _<_}
 use native.Mathlib.Omega.{arith}
-use mathlib.Core.Path.{_≡_, refl, sym, ap, _∙_}
+use mathlib.Core.Path.{_≡_, refl, sym, ap, subst, _∙_}
 use mathlib.Core.Bool.{true, false}
 use mathlib.Core.List.{List, [], _++_, append-assoc, append-nil}
 use lib.Dec.{leb}
@@ -15,6 +15,10 @@ use Rattle.lists.proofs.Front.{rest-part}
 use Rattle.text.specs.Writing.{Writes}
 use Rattle.text.specs.Appending.{Appends, highestCount, counted}
 use Rattle.text.proofs.WritingLaws.{writes-none, writes-all, writes-fits}
+
+-- the same text in other words
+pub append-as : (x y before after : List ℕ) (at r : ℕ) → x ≡ y → Appends x before after at r → Appends y before after at r
+append-as x y before after at r e a = subst (λ (l : List ℕ). Appends l before after at r) e a
 
 pub append-none : (out : List ℕ) (at : ℕ) → Appends [] out out at at
 append-none out at =

@@ -18,10 +18,6 @@ use Rattle.trace_texts.specs.Line.{inForm, sentBy, answerLine, firstByte
 abbrev pub longestInput : ℕ
 longestInput = 65536
 
--- the line of the output's names
-abbrev pub namesSize : ℕ
-namesSize = 34
-
 -- every trace has room in so many: the names, and at most fifteen for each byte of the input
 abbrev pub traceRoom : ℕ
 traceRoom = 983074

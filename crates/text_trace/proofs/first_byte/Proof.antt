@@ -3,8 +3,8 @@ use mathlib.Core.Path.{_∙_}
 use borrow.Author.Needs.{needs}
 use borrow.Author.Tests.{eq-eqb, ne-eqb}
 use Rattle.lists.proofs.Tests.{and-false}
-use Rattle.text_trace_lines.proofs.first_byte.Statement.{statement}
-use Rattle.text_trace_lines.proofs.first_byte.Tie as tie
+use Rattle.text_trace.proofs.first_byte.Statement.{statement}
+use Rattle.text_trace.proofs.first_byte.Tie as tie
 
 returns : tie.Need-returns
 returns c = rw (ne-eqb (c .before .before .args .op) 5 (c .if1 .taken))

@@ -2,9 +2,9 @@
 use mathlib.Core.Path.{sym, _∙_}
 use borrow.Author.Needs.{needs}
 use borrow.Author.Tests.{not-true, not-false}
-use Rattle.text_trace_lines.proofs.LineReading.{no-values, other-fill, well-formed}
-use Rattle.text_trace_lines.proofs.read_line.Statement.{statement}
-use Rattle.text_trace_lines.proofs.read_line.Tie as tie
+use Rattle.text_trace.proofs.LineReading.{no-values, other-fill, well-formed}
+use Rattle.text_trace.proofs.read_line.Statement.{statement}
+use Rattle.text_trace.proofs.read_line.Tie as tie
 
 slice-aggregate-read-values : tie.Need-slice-aggregate-read-values
 slice-aggregate-read-values c = search needs

@@ -10,9 +10,9 @@ use borrow.Author.Tests.{leb-true, eqb-true}
 use Rattle.lists.proofs.Tests.{Case, pass, fail, case, contradiction}
 use Rattle.machine.specs.declared.Request.{Request}
 use Rattle.text.specs.Reading.{hasValues, valuesOf}
-use Rattle.text_trace_lines.specs.declared.Asked.{Asked}
-use Rattle.trace_texts.specs.Line.{requestOf, fillOf, fillOk, inForm}
-use Rattle.text_trace_lines.specs.Appending.{Reads}
+use Rattle.text_trace.specs.declared.Asked.{Asked}
+use Rattle.trace_texts.specs.Line.{inputColumns, requestOf, fillOf, fillOk, inForm}
+use Rattle.text_trace.specs.Contract.{Reads}
 
 abbrev pub asked : Bool → Request → ℕ → Asked
 asked formed request fill = record { formed = formed; request = request; fill = fill }
@@ -29,14 +29,14 @@ module _ (line : List ℕ) where
   another-form : (request : Request) (fill : ℕ) → inForm line ≡ false → Reads line (asked false request fill)
   another-form request fill e = record { formed = sym e; request = λ f. contradiction f e; fill = λ f. contradiction f e }
 
-  not-in-form : hasValues 10 line ≡ false → inForm line ≡ false
+  not-in-form : hasValues inputColumns line ≡ false → inForm line ≡ false
   unfolding inForm
   not-in-form e = rw e
 
-  pub no-values : (request : Request) (fill : ℕ) → hasValues 10 line ≡ false → Reads line (asked false request fill)
+  pub no-values : (request : Request) (fill : ℕ) → hasValues inputColumns line ≡ false → Reads line (asked false request fill)
   no-values request fill e = another-form request fill (not-in-form e)
 
-  module _ (v : List ℕ) (values : v ≡ valuesOf line) (form : hasValues 10 line ≡ true) where
+  module _ (v : List ℕ) (values : v ≡ valuesOf line) (form : hasValues inputColumns line ≡ true) where
     in-form : inForm line ≡ fillOk (getD v 2 0) (getD v 9 0)
     unfolding inForm
     in-form = rw (form, values)

@@ -1,8 +1,8 @@
 -- Each return is one case of the definition.
 use borrow.Author.Tests.{eq-eqb, ne-eqb}
 use Rattle.trace_texts.specs.Line.{fillOk}
-use Rattle.text_trace_lines.proofs.fill_ok.Statement.{statement}
-use Rattle.text_trace_lines.proofs.fill_ok.Tie as tie
+use Rattle.text_trace.proofs.fill_ok.Statement.{statement}
+use Rattle.text_trace.proofs.fill_ok.Tie as tie
 
 returns : tie.Need-returns
 unfolding fillOk
