@@ -80,10 +80,7 @@ pub fn first_line(text: &[u8], names: &[u8]) -> FirstLine
         };
     }
     let ok = same(&text[..end], names);
-    FirstLine {
-        ok: ok,
-        end: end,
-    }
+    FirstLine { ok: ok, end: end }
 }
 
 // A value and where it ends, or another form.

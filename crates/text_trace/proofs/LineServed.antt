@@ -7,8 +7,7 @@ use mathlib.Core.List.{List}
 use lib.Dec.{eqb}
 use lib.ListN.{length, getD, replicate}
 use Rattle.lists.proofs.Tests.{Case, pass, fail, case}
-use Rattle.tables.specs.declared.Tables.{Tables}
-use Rattle.machine.specs.declared.{Request.Request, Answer.Answer}
+use Rattle.machine.specs.declared.Answer.{Answer}
 use Rattle.machine.specs.State.{State, Outcome}
 use Rattle.machine.specs.Step.{serve}
 use Rattle.machine.specs.Sequence.{enter}
@@ -17,8 +16,7 @@ use Rattle.image.specs.Image.{encode, decode, isImage}
 use Rattle.image.proofs.RoundTrip.{encode-decode, encode-is-image}
 use Rattle.image_find.proofs.Laws.{decoded-sized}
 use Rattle.op_outcome.specs.Outcomes.{stateOf}
-use Rattle.op_serve.specs.Contract.{InOrder, LeavesLent}
-use Rattle.text.specs.Appending.{Appends}
+use Rattle.op_serve.specs.Contract.{LeavesLent}
 use Rattle.trace_texts.specs.Line.{inForm, sentBy, answerLine, firstByte, otherLine}
 use Rattle.trace_texts.specs.Trace.{servedBy, answerTo, leftBy}
 use Rattle.text_trace.specs.declared.Asked.{Asked}

@@ -31,8 +31,8 @@ pub record Ready (image bytes : List ℕ) : Type 0 where
   pub noFar : noFarChild (decode image) ≡ true
   pub store : length bytes ≡ 16384
 
--- lent lines from `start` on: a line stands in front of them, and they are few enough for their numbers
-pub record Behind (start : ℕ) (input : List ℕ) : Type 0 where
+-- the lines of an input from `start` on: one stands in front of them, and they are few enough for their numbers
+pub record LinesFrom (start : ℕ) (input : List ℕ) : Type 0 where
   pub short : length input ≤ longestInput
   pub first : 1 ≤ start
   pub inside : start ≤ length input + 1

@@ -10,13 +10,13 @@ ghost use Rattle.text.specs.Writing.{Writes};
 ghost use Rattle.text.specs.Appending.{Appends, Countable};
 ghost use Rattle.trace_texts.specs.Line.{fillOk, answerLine, otherLine};
 ghost use Rattle.trace_texts.specs.Trace as spec;
-ghost use Rattle.text_trace.specs.Contract.{Reads, dockOf, Ready, Behind, Holds};
+ghost use Rattle.text_trace.specs.Contract.{Reads, dockOf, Ready, LinesFrom, Holds};
 use image::IMAGE;
 use machine::Answer;
 use machine::Request;
 
 // The longest input, in bytes.
-const LONGEST: usize = 65536;
+pub const LONGEST: usize = 65536;
 
 // Bytes that every trace has room in: the names, and at most fifteen for each byte of the input.
 pub const ROOM: usize = 983074;
@@ -126,8 +126,9 @@ fn append_other(out: &mut [u8], at: usize, number: u16) -> usize
     append_answer(out, at, number, other, 0)
 }
 
-// ---- a line's whole work: it is read, its request served, the answer appended
+// ---- lines, over the image and the store that the caller lends
 
+// One line's whole work: it is read, its request served, the answer appended.
 fn serve_line(
     tables: &mut [u8],
     store: &mut [u8],
@@ -152,7 +153,7 @@ fn serve_line(
     append_answer(out, at, number, answer, byte)
 }
 
-// The lines from `start` on, one after the other, over the image and the store that the caller lends.
+// The lines from `start` on, one after the other.
 pub fn serve_lines(
     tables: &mut [u8],
     store: &mut [u8],
@@ -161,17 +162,18 @@ pub fn serve_lines(
     out: &mut [u8],
     at: usize,
 ) -> usize
-    requires { ⌜ Ready (now tables) (now store) × (Behind start (now input) × Countable at (spec.answers 1 (dockOf (now tables) (now store)) (lines (drop start (now input))))) ⌝ }
+    requires { ⌜ Ready (now tables) (now store) × (LinesFrom start (now input) × Countable at (spec.answers 1 (dockOf (now tables) (now store)) (lines (drop start (now input))))) ⌝ }
     ensures { λ r. ⌜ Appends (spec.answers 1 (dockOf (now (tables .entry)) (now (store .entry))) (lines (drop start (now (input .entry))))) (now (out .entry)) (now (out .exit)) at r ⌝ }
     ensures { λ _. ⌜ Holds (spec.afterLines (dockOf (now (tables .entry)) (now (store .entry))) (lines (drop start (now (input .entry))))) (now (tables .exit)) (now (store .exit)) ⌝ }
 {
     let mut from = start;
-    let mut number: u16 = 0;
+    let mut done: u16 = 0;
     let mut total = at;
     while from < input.len() {
         let end = from + text::find(&input[from..], LINE_END);
-        number = number + 1;
+        let number = done + 1;
         total = serve_line(tables, store, &input[from..end], number, out, total);
+        done = number;
         from = end + 1;
     }
     total

@@ -7,7 +7,7 @@ use mathlib.Core.Path.{_≡_, refl}
 use Rattle.lists.specs.Tests.{implies, between}
 use Rattle.lists.specs.Lists.{firstIndex, all, some, noTwo, allAt, someAt, mapAt, least}
 use Rattle.rights.specs.Rules.{within}
-use Rattle.tables.specs.Names.{nameOf, eqName, isProgram, sameProgram, emptyTables}
+use Rattle.tables.specs.Names.{eqName, isProgram, sameProgram, emptyTables}
 use Rattle.tables.specs.Lookup.{hasNumber, ticketIn, lookup, isNamed, entryIn}
 use Rattle.tables.specs.Chains.{reaches, endOf}
 use Rattle.tables.specs.Sheets.{apart, inside, outside, isFreeRun, lowestRun, hasRun}
@@ -23,7 +23,7 @@ use Rattle.machine.specs.GiveBack.{giveBackRefusal, giveBackTables, afterGiveBa
 use Rattle.machine.specs.Dock.{dockRefusal, dockCheck}
 use Rattle.machine.specs.Access.{accessRefusal, afterRead, afterWrite}
 use Rattle.machine.specs.Step.{ownRefusal, requestRefusal, lengthsOk, refusal, afterOwn, dropHead, outcome, step}
-use Rattle.machine.specs.Empty.{emptied, emptyStore, emptyDock}
+use Rattle.machine.specs.Empty.{emptied, emptyDock}
 use Rattle.machine.specs.Sequence.{enter}
 use Rattle.text.specs.Bytes.{bytes, lineEnd, sameBytes}
 use Rattle.text.specs.Reading.{inFront, cut, lines, fields, isDigit, numberFrom, isNumber, noLeadingZero, isValue, hasValues, valuesOf}

@@ -27,7 +27,10 @@ same-length : tie.Need-same-length
 same-length c = search needs
 
 returns-2 : tie.Need-returns-2
-returns-2 c = append-written _ _ _ _ _ (omega (arith, c .before .before .before .before .if1 .left)) (c .before .before .put .ensures) (c .before .before .put .kept .0)
+returns-2 c =
+    let c2 = c .before .before in
+    let c4 = c2 .before .before in
+    append-written _ _ _ _ _ (omega (arith, c4 .if1 .left)) (c2 .put .ensures) (c2 .put .kept .0)
 
 pub append-spec : {M : Type 1} → statement M
 append-spec =

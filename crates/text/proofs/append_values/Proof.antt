@@ -13,12 +13,14 @@ line-length-requires c κs = search needs
 
 add-end : tie.Need-add-end
 add-end c =
-    omega (arith, c .line-length .ensures, counted-all (length (valuesLine (c .before .before .before .args .values .now))) (omega (arith, c .before .before .before .pre)), c .before .before .before .pre)
+    let c3 = c .before .before .before in
+    omega (arith, c .line-length .ensures, counted-all (length (valuesLine (c3 .args .values .now))) (omega (arith, c3 .pre)), c3 .pre)
 
 returns : tie.Need-returns
 returns c =
-    let line = valuesLine (c .before .before .before .before .args .values .now) in
-    let long = c .before .line-length .ensures ∙ counted-all (length line) (omega (arith, c .before .before .before .before .pre)) in
+    let c4 = c .before .before .before .before in
+    let line = valuesLine (c4 .args .values .now) in
+    let long = c .before .line-length .ensures ∙ counted-all (length line) (omega (arith, c4 .pre)) in
     rw long (append-beyond line _ _ (omega (arith, long, c .if1 .taken)))
 
 sub-lay-values : tie.Need-sub-lay-values
@@ -32,18 +34,23 @@ part-lay-values-end c = search needs
 
 lay-values-requires : tie.Need-lay-values-requires
 lay-values-requires c κs =
-    let line = valuesLine (c .before .before .before .before .before .args .values .now) in
-    let long = c .before .before .line-length .ensures ∙ counted-all (length line) (omega (arith, c .before .before .before .before .before .pre)) in
-    room-behind (c .before .before .before .before .before .args .out .now) (c .before .before .before .before .before .args .at) (length line) (omega (arith, long, c .before .if1 .left))
+    let c5 = c .before .before .before .before .before in
+    let line = valuesLine (c5 .args .values .now) in
+    let long = c .before .before .line-length .ensures ∙ counted-all (length line) (omega (arith, c5 .pre)) in
+    room-behind (c5 .args .out .now) (c5 .args .at) (length line) (omega (arith, long, c .before .if1 .left))
 
 same-length : tie.Need-same-length
 same-length c = search needs
 
 returns-2 : tie.Need-returns-2
 returns-2 c =
-    let line = valuesLine (c .before .before .before .before .before .before .before .before .args .values .now) in
-    let long = c .before .before .before .before .before .line-length .ensures ∙ counted-all (length line) (omega (arith, c .before .before .before .before .before .before .before .before .pre)) in
-    rw long (append-rest line _ _ _ (omega (arith, long, c .before .before .before .before .if1 .left)) (c .before .before .lay-values .ensures) (c .before .before .lay-values .kept .0))
+    let c2 = c .before .before in
+    let c4 = c2 .before .before in
+    let c5 = c4 .before in
+    let c8 = c5 .before .before .before in
+    let line = valuesLine (c8 .args .values .now) in
+    let long = c5 .line-length .ensures ∙ counted-all (length line) (omega (arith, c8 .pre)) in
+    rw long (append-rest line _ _ _ (omega (arith, long, c4 .if1 .left)) (c2 .lay-values .ensures) (c2 .lay-values .kept .0))
 
 pub append-values-spec : {M : Type 1} → statement M
 append-values-spec =

@@ -13,18 +13,25 @@ find-requires : tie.Need-find-requires
 find-requires c κs = search needs
 
 returns : tie.Need-returns
-returns c = no-first (c .before .before .before .before .args .names .now) (c .before .before .before .before .args .text .now) _ (c .before .find .ensures) (c .if1 .taken)
+returns c =
+    let c4 = c .before .before .before .before in
+    no-first (c4 .args .names .now) (c4 .args .text .now) _ (c .before .find .ensures) (c .if1 .taken)
 
 slice-aggregate-same : tie.Need-slice-aggregate-same
 slice-aggregate-same c =
-    let text = c .before .before .before .before .before .args .text .now in
-    sym (length-take-le (c .before .before .find .result) text (omega (arith, c .before .before .find .ensures, first-within (λ b. eqb b 10) text)))
+    let c2 = c .before .before in
+    let c5 = c2 .before .before .before in
+    let text = c5 .args .text .now in
+    sym (length-take-le (c2 .find .result) text (omega (arith, c2 .find .ensures, first-within (λ b. eqb b 10) text)))
 
 same-requires : tie.Need-same-requires
 same-requires c κs = search needs
 
 returns-2 : tie.Need-returns-2
-returns-2 c = is-first (c .before .before .before .before .before .before .args .names .now) (c .before .before .before .before .before .before .args .text .now) _ (c .before .before .before .find .ensures) _ (omega (arith, c .before .before .if1 .left)) (c .same .ensures)
+returns-2 c =
+    let c3 = c .before .before .before in
+    let c6 = c3 .before .before .before in
+    is-first (c6 .args .names .now) (c6 .args .text .now) _ (c3 .find .ensures) _ (omega (arith, c .before .before .if1 .left)) (c .same .ensures)
 
 pub first-line-spec : {M : Type 1} → statement M
 first-line-spec =

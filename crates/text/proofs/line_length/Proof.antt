@@ -32,7 +32,10 @@ places-requires : tie.Need-places-requires Inv-loop μ-loop
 places-requires c κs = search needs
 
 add-more : tie.Need-add-more Inv-loop μ-loop
-add-more c = omega (arith, c .places .ensures, places-most (getD (c .before .before .before .before .before .args .values .now) (c .before .before .before .loop .i) 0))
+add-more c =
+    let c3 = c .before .before .before in
+    let c5 = c3 .before .before in
+    omega (arith, c .places .ensures, places-most (getD (c5 .args .values .now) (c3 .loop .i) 0))
 
 add-i : tie.Need-add-i Inv-loop μ-loop
 add-i c = search needs
@@ -42,8 +45,10 @@ sub-if1 c = search needs
 
 returns : tie.Need-returns Inv-loop μ-loop
 returns c =
-    let l = c .before .before .before .before .loop in
-    let longer = count-more (c .before .before .before .before .before .before .args .values .now) (l .i) (l .total) _ (omega arith) (ap (λ n. n + 1) (c .before .places .ensures)) (l .inv .1 .1) in
+    let c4 = c .before .before .before .before in
+    let c6 = c4 .before .before in
+    let l = c4 .loop in
+    let longer = count-more (c6 .args .values .now) (l .i) (l .total) _ (omega arith) (ap (λ n. n + 1) (c .before .places .ensures)) (l .inv .1 .1) in
     sym (counted-most _ (omega (arith, longer, c .if1 .taken)))
 
 add-total : tie.Need-add-total Inv-loop μ-loop
@@ -54,18 +59,21 @@ loop-less c = search needs
 
 loop-again : tie.Need-loop-again Inv-loop μ-loop
 loop-again c =
-    let l = c .before .before .before .before .loop in (
+    let c4 = c .before .before .before .before in
+    let c6 = c4 .before .before in
+    let l = c4 .loop in (
       omega arith,
       (
         omega (arith, c .if1 .left, l .inv .1 .0),
-        count-more (c .before .before .before .before .before .before .args .values .now) (l .i) (l .total) _ (omega arith) (ap (λ n. n + 1) (c .before .places .ensures)) (l .inv .1 .1),
+        count-more (c6 .args .values .now) (l .i) (l .total) _ (omega arith) (ap (λ n. n + 1) (c .before .places .ensures)) (l .inv .1 .1),
       ),
     )
 
 returns-2 : tie.Need-returns-2 Inv-loop μ-loop
 returns-2 c =
+    let c3 = c .before .before .before in
     let l = c .before .loop in
-    let all = count-end (c .before .before .before .args .values .now) (l .i) (l .total) (omega arith) (l .inv .1 .1) in
+    let all = count-end (c3 .args .values .now) (l .i) (l .total) (omega arith) (l .inv .1 .1) in
     sym (ap counted all ∙ counted-all (l .total) (l .inv .1 .0))
 
 pub line-length-spec : {M : Type 1} → statement M

@@ -14,13 +14,15 @@ line-length-requires c κs = search needs
 
 returns : tie.Need-returns
 returns c =
-    let a = c .before .before .before .before .args in
+    let c4 = c .before .before .before .before in
+    let a = c4 .args in
     let n = length (valuesLine (a .values .now)) in
     writes-none _ _ (counted-beyond n (length (a .out .now)) (omega (arith, c .if1 .taken, c .before .line-length .ensures)))
 
 lay-values-requires : tie.Need-lay-values-requires
 lay-values-requires c κs =
-    let a = c .before .before .before .before .before .args in
+    let c5 = c .before .before .before .before .before in
+    let a = c5 .args in
     let n = length (valuesLine (a .values .now)) in
     counted-room n (length (a .out .now)) (omega arith) (omega (arith, c .before .if1 .left, c .before .before .line-length .ensures))
 
@@ -29,10 +31,13 @@ same-length c = search needs
 
 returns-2 : tie.Need-returns-2
 returns-2 c =
-    let a = c .before .before .before .before .before .before .before .before .args in
+    let c4 = c .before .before .before .before in
+    let c5 = c4 .before in
+    let c8 = c5 .before .before .before in
+    let a = c8 .args in
     let n = length (valuesLine (a .values .now)) in
-    let room = counted-room n (length (a .out .now)) (omega arith) (omega (arith, c .before .before .before .before .if1 .left, c .before .before .before .before .before .line-length .ensures)) in
-    writes-all _ _ _ _ room (c .before .before .lay-values .ensures) (c .before .before .before .before .before .line-length .ensures ∙ counted-all n (omega (arith, room)))
+    let room = counted-room n (length (a .out .now)) (omega arith) (omega (arith, c4 .if1 .left, c5 .line-length .ensures)) in
+    writes-all _ _ _ _ room (c .before .before .lay-values .ensures) (c5 .line-length .ensures ∙ counted-all n (omega (arith, room)))
 
 pub put-values-spec : {M : Type 1} → statement M
 put-values-spec =

@@ -9,7 +9,9 @@ slice-aggregate-append-values c = search needs
 
 append-values-requires : tie.Need-append-values-requires
 unfolding answerLine
-append-values-requires c κs = c .before .before .before .pre
+append-values-requires c κs =
+    let c3 = c .before .before .before in
+    c3 .pre
 
 same-length : tie.Need-same-length
 same-length c = search needs
