@@ -29,6 +29,9 @@ const LINE_END: u8 = 10;
 
 // ---- a line of the input
 
+// The request's nine numbers and the fill.
+const COLUMNS: usize = 10;
+
 // What a line asks for.
 pub struct Asked {
     pub formed: bool,
@@ -48,7 +51,7 @@ fn fill_ok(op: u16, fill: u16) -> bool
 fn read_line(line: &[u8]) -> Asked
     ensures { λ a. ⌜ Reads (now (line .entry)) a ⌝ }
 {
-    let mut v = [0u16; 10];
+    let mut v = [0u16; COLUMNS];
     let formed = text::read_values(line, &mut v);
     let op = v[2];
     let fill = v[9];
