@@ -3,7 +3,8 @@
 ghost use mathlib.Core.Path.{_≡_};
 ghost use lib.ListN.{length};
 ghost use Rattle.text.specs.Bytes.{sameBytes};
-ghost use Rattle.trace_texts.specs.Trace.{trace};
+ghost use Rattle.trace_texts.specs.Trace.{traceRoom, trace};
+use text_trace::LONGEST;
 
 // ---- a file
 
@@ -67,7 +68,7 @@ fn read_part(name: &[u8], ending: &[u8], buffer: &mut [u8]) -> Read {
 
 // Is the trace of the input what is expected, byte for byte? The buffer is for the trace.
 fn traces_to(input: &[u8], expected: &[u8], out: &mut [u8]) -> bool
-    requires { ⌜ length (now out) ≡ 983074 ⌝ }
+    requires { ⌜ length (now out) ≡ traceRoom ⌝ }
     ensures { λ r. ⌜ r ≡ sameBytes (trace (now (input .entry))) (now (expected .entry)) ⌝ }
 {
     let size = text_trace::trace(input, out);
@@ -76,7 +77,7 @@ fn traces_to(input: &[u8], expected: &[u8], out: &mut [u8]) -> bool
 
 // Does the case hold? The buffers are for its input, for the expected trace and for the trace.
 fn agrees(name: &[u8], input: &mut [u8], expected: &mut [u8], out: &mut [u8]) -> bool
-    requires { ⌜ length (now out) ≡ 983074 ⌝ }
+    requires { ⌜ length (now out) ≡ traceRoom ⌝ }
 {
     let Read::Whole(n) = read_part(name, b".in", input) else {
         return false;
@@ -98,7 +99,7 @@ fn holds(name: &[u8]) -> bool {
     if name.len() == 0 {
         return false;
     }
-    let mut input = [0u8; 65537];
+    let mut input = [0u8; LONGEST + 1];
     let mut expected = text_trace::buffer();
     let mut out = text_trace::buffer();
     agrees(name, &mut input, &mut expected, &mut out)

@@ -1,6 +1,7 @@
-pub mod NamesLaws
 pub mod ReadingLaws
+pub mod NamesLaws
 pub mod NumberLaws
 pub mod ReadingSteps
 pub mod WritingLaws
 pub mod WritingSteps
+pub mod Appending

@@ -15,14 +15,14 @@ use Rattle.text.specs.Writing.{digits, places, decimal, written, written
 module _ (text before : List ℕ) where
   pub writes-none : length before < length text → Writes text before before 0
   unfolding written writtenLength
-  writes-none h = record { output = rw (lt-leb (length text) (length before) h); length = rw (lt-leb (length text) (length before) h) }
+  writes-none h = record { output = rw (lt-leb (length text) (length before) h); size = rw (lt-leb (length text) (length before) h) }
 
   pub writes-all : (after : List ℕ) (answer : ℕ) → length text ≤ length before → after ≡ text ++ drop (length text) before
       → answer ≡ length text → Writes text before after answer
   unfolding written writtenLength
   writes-all after answer h e a = record {
     output = rw (le-leb (length text) (length before) h) e;
-    length = rw (le-leb (length text) (length before) h) a;
+    size = rw (le-leb (length text) (length before) h) a;
   }
 
   pub writes-fits : (after : List ℕ) (answer : ℕ) → length text ≤ length before → Writes text before after answer
@@ -30,15 +30,15 @@ module _ (text before : List ℕ) where
   unfolding written writtenLength
   writes-fits after answer h w =
       let e : leb (length text) (length before) ≡ true = le-leb (length text) (length before) h in
-      (rw e at (w .output), rw e at (w .length))
+      (rw e at (w .output), rw e at (w .size))
 
   pub written-within : (after : List ℕ) (answer : ℕ) → Writes text before after answer → answer ≤ length before
   unfolding writtenLength
   written-within after answer w = go (case (leb (length text) (length before)))
     where
       go : Case (leb (length text) (length before)) → answer ≤ length before
-      go (pass e) = omega (arith, leb-true (length text) (length before) e, rw e at (w .length))
-      go (fail e) = omega (arith, rw e at (w .length))
+      go (pass e) = omega (arith, leb-true (length text) (length before) e, rw e at (w .size))
+      go (fail e) = omega (arith, rw e at (w .size))
 
 -- ---- how many digits
 module _ (n : ℕ) where

@@ -1,18 +1,17 @@
--- Laws of a line of values: its length, whether it fits, and an output into which it is written value by value.
+-- Laws of a line of values: its length, and an output into which it is written value by value.
 use Prim.Native.Nat.{ℕ, suc, _+_, _-_, _≤_, _<_}
 use native.Mathlib.Numerals.{add-one}
 use native.Mathlib.Omega.{arith}
 use mathlib.Core.Path.{_≡_, refl, sym, ap, _∙_}
-use mathlib.Core.Bool.{true, false, cond}
+use mathlib.Core.Bool.{cond}
 use mathlib.Core.List.{List, [], _∷_, _++_, append-assoc, append-nil}
-use lib.Dec.{leb, eqb}
+use lib.Dec.{eqb}
 use lib.ListN.{length, getD, set, take, drop, length-append, length-drop, length-set, take-append-drop, drop-of-length-le}
 use lib.Seq.{drop-cons, drop-length, append-snoc, take-length, take-at, drop-at, set-at, drop-drop, length-take-le}
-use borrow.Author.Tests.{le-leb, lt-leb, leb-true, ne-eqb}
+use borrow.Author.Tests.{ne-eqb}
 use borrow.Rule.Slice.PartMut.{putMid}
-use Rattle.lists.proofs.Tests.{both-ways}
 use Rattle.text.specs.Writing.{places, decimal, behind, valuesLine, Writes}
-use Rattle.text.proofs.WritingLaws.{writes-all, writes-fits, length-decimal}
+use Rattle.text.proofs.WritingLaws.{writes-fits, length-decimal}
 
 pub line-none : valuesLine [] ≡ []
 unfolding valuesLine
@@ -36,27 +35,15 @@ unfolding behind
 behind-test [] = refl
 behind-test (v ∷ vs) = rw (ne-eqb (suc (length vs)) 0 (λ e. omega arith))
 
--- a part of a length and of the room for it taken off
-leb-less : (a m room : ℕ) → a ≤ room → leb (a + m) room ≡ leb m (room - a)
-leb-less a m room h =
-    both-ways (leb (a + m) room) (leb m (room - a)) (λ e. le-leb m (room - a) (omega (arith, leb-true (a + m) room e)))
-    (λ e. le-leb (a + m) room (omega (arith, leb-true m (room - a) e)))
+-- ---- the line's length, counted value by value: `total` bytes for the values in front of place i
+pub count-more : (values : List ℕ) (i total more : ℕ) → i < length values → more ≡ places (getD values i 0) + 1
+    → length (valuesLine values) ≡ total + length (valuesLine (drop i values))
+    → length (valuesLine values) ≡ total + more + length (valuesLine (drop (i + 1) values))
+count-more values i total more h e so-far = omega (arith, so-far, e, length-line-from values i h)
 
--- does the line of the values from place i on fit? One value less, and what is left of the room
-module _ (values : List ℕ) (i left count : ℕ) (h : i < length values) (e : count ≡ places (getD values i 0)) where
-  pub fits-more : count < left
-      → leb (length (valuesLine (drop i values))) left ≡ leb (length (valuesLine (drop (i + 1) values))) (left - count - 1)
-  fits-more l =
-      let m = length (valuesLine (drop (i + 1) values)) in
-      let s : length (valuesLine (drop i values)) ≡ count + 1 + m = rw e (length-line-from values i h) in
-      let d : left - (count + 1) ≡ left - count - 1 = omega arith in
-      rw s (leb-less (count + 1) m left (omega arith) ∙ ap (leb m) d)
-
-  pub fits-not : left ≤ count → leb (length (valuesLine (drop i values))) left ≡ false
-  fits-not l = lt-leb (length (valuesLine (drop i values))) left (omega (arith, length-line-from values i h))
-
-pub fits-end : (values : List ℕ) (i left : ℕ) → length values ≤ i → leb (length (valuesLine (drop i values))) left ≡ true
-fits-end values i left h = rw (line-end values i h) (le-leb 0 left (omega arith))
+pub count-end : (values : List ℕ) (i total : ℕ) → length values ≤ i
+    → length (valuesLine values) ≡ total + length (valuesLine (drop i values)) → length (valuesLine values) ≡ total
+count-end values i total h so-far = omega (arith, so-far, ap length (line-end values i h))
 
 -- ---- a value d and a byte s behind it, written over q behind p
 module _ (p q : List ℕ) (at : ℕ) (e : length p ≡ at) where
@@ -91,12 +78,12 @@ pub laid-none : (values out : List ℕ) → length (valuesLine values) ≤ lengt
 laid-none values out h = record { turns = omega arith; room = h; low = omega arith; long = refl; output = refl; rest = refl }
 
 pub laid-end : (values before out : List ℕ) (at i : ℕ) → Laid values before out at i → length values ≤ i
-    → Writes (valuesLine values) before out at
+    → out ≡ valuesLine values ++ drop (length (valuesLine values)) before
 laid-end values before out at i l h =
     let line = valuesLine values in
     let z : length (drop at line) ≡ 0 = ap length (l .rest ∙ line-end values i h) in
     let e : at ≡ length line = omega (arith, z, length-drop at line, l .low) in
-    writes-all line before out at (l .room) (rw e at (l .output) ∙ ap (λ (t : List ℕ). t ++ drop (length line) before) (take-length line)) e
+    rw e at (l .output) ∙ ap (λ (t : List ℕ). t ++ drop (length line) before) (take-length line)
 
 -- one value more
 module _ (values before out : List ℕ) (at i : ℕ) (l : Laid values before out at i) (h : i < length values) (back : List ℕ) (count : ℕ)

@@ -1,4 +1,6 @@
 pub mod Bytes
 pub mod Reading
 pub mod FieldNumber
+pub mod Names
 pub mod Writing
+pub mod Appending

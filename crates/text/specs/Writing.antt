@@ -40,4 +40,4 @@ writtenLength text out = cond (leb (length text) (length out)) (length text) 0
 
 pub record Writes (text before after : List ℕ) (answer : ℕ) : Type 0 where
   pub output : after ≡ written text before
-  pub length : answer ≡ writtenLength text before
+  pub size : answer ≡ writtenLength text before

@@ -1,16 +1,19 @@
-// Lines of values as text: read from a part of an input buffer, and written into a lent output. No routine asks anything of its
-// caller; a text that does not fit into the output is refused, and leaves it unchanged.
+// Lines of values as text: read from a part of an input buffer, and written into a lent output or behind what stands in it. A text that
+// does not fit into the output is refused, and leaves it unchanged. Of the public routines only those that append ask something of their
+// caller: that the length with the text can be counted.
 ghost use Prim.Native.Nat.{_≤_};
 ghost use mathlib.Core.Path.{_≡_};
 ghost use mathlib.Core.Bool.{cond};
 ghost use mathlib.Core.List.{_++_};
-ghost use lib.Dec.{leb, eqb};
+ghost use lib.Dec.{eqb};
 ghost use lib.ListN.{length, drop, replicate};
 ghost use Rattle.lists.specs.Lists.{firstIndex};
 ghost use Rattle.text.specs.Bytes.{sameBytes};
 ghost use Rattle.text.specs.Reading.{isNumber, isValue, valueIn, hasValues, valuesOf};
 ghost use Rattle.text.specs.FieldNumber.{numberOr};
+ghost use Rattle.text.specs.Names.{firstLineOf};
 ghost use Rattle.text.specs.Writing.{digits, places, decimal, valuesLine, Writes};
+ghost use Rattle.text.specs.Appending.{Appends, Countable, counted};
 
 const SPACE: u8 = 32;
 
@@ -23,6 +26,9 @@ const NINE: u32 = 57;
 
 // No value: one above the highest.
 const NO_VALUE: u32 = 65536;
+
+// The highest number of a `usize`; no slice is so long.
+const HIGHEST: usize = 18446744073709551615;
 
 // ---- reading
 
@@ -55,6 +61,26 @@ pub fn same(a: &[u8], b: &[u8]) -> bool
         i = i + 1;
     }
     true
+}
+
+// The first line of a text: is it the names, and where does it end?
+pub struct FirstLine {
+    pub ok: bool,
+    pub end: usize,
+}
+
+pub fn first_line(text: &[u8], names: &[u8]) -> FirstLine
+    ensures { λ r. ⌜ r ≡ firstLineOf (now (names .entry)) (now (text .entry)) ⌝ }
+{
+    let end = find(text, LINE_END);
+    if text.len() == 0 {
+        return FirstLine {
+            ok: false,
+            end: end,
+        };
+    }
+    let ok = same(&text[..end], names);
+    FirstLine { ok: ok, end: end }
 }
 
 // A value and where it ends, or another form.
@@ -239,30 +265,28 @@ fn separator(left: usize) -> u8
     SPACE
 }
 
-// Does a line of these values fit into so many bytes?
-fn fits(values: &[u16], room: usize) -> bool
-    ensures { λ r. ⌜ r ≡ leb (length (valuesLine (now (values .entry)))) room ⌝ }
+// How long a line of these values is, counted up to the highest number.
+fn line_length(values: &[u16]) -> usize
+    ensures { λ r. ⌜ r ≡ counted (length (valuesLine (now (values .entry)))) ⌝ }
 {
-    let mut left = room;
+    let mut total: usize = 0;
     let mut i: usize = 0;
     while i < values.len() {
-        let count = places(values[i]);
+        let more = places(values[i]) + 1;
         i = i + 1;
-        if left <= count {
-            return false;
+        if HIGHEST - total < more {
+            return HIGHEST;
         }
-        left = left - count - 1;
+        total = total + more;
     }
-    true
+    total
 }
 
-// A line of values goes to the front of the output.
-pub fn put_values(out: &mut [u8], values: &[u16]) -> usize
-    ensures { λ r. ⌜ Writes (valuesLine (now (values .entry))) (now (out .entry)) (now (out .exit)) r ⌝ }
+// A line of values that has room goes to the front of the output.
+fn lay_values(out: &mut [u8], values: &[u16])
+    requires { ⌜ length (valuesLine (now values)) ≤ length (now out) ⌝ }
+    ensures { λ _. ⌜ now (out .exit) ≡ valuesLine (now (values .entry)) ++ drop (length (valuesLine (now (values .entry)))) (now (out .entry)) ⌝ }
 {
-    if !fits(values, out.len()) {
-        return 0;
-    }
     let mut at: usize = 0;
     let mut i: usize = 0;
     while i < values.len() {
@@ -273,5 +297,43 @@ pub fn put_values(out: &mut [u8], values: &[u16]) -> usize
         out[at] = separator(values.len() - i);
         at = at + 1;
     }
-    at
+}
+
+// A line of values goes to the front of the output.
+pub fn put_values(out: &mut [u8], values: &[u16]) -> usize
+    ensures { λ r. ⌜ Writes (valuesLine (now (values .entry))) (now (out .entry)) (now (out .exit)) r ⌝ }
+{
+    let count = line_length(values);
+    if out.len() < count {
+        return 0;
+    }
+    lay_values(out, values);
+    count
+}
+
+// ---- appending: behind the `at` bytes that stand, where there is room; the length counts in any case
+
+pub fn append(out: &mut [u8], at: usize, text: &[u8]) -> usize
+    requires { ⌜ Countable at (now text) ⌝ }
+    ensures { λ r. ⌜ Appends (now (text .entry)) (now (out .entry)) (now (out .exit)) at r ⌝ }
+{
+    let end = at + text.len();
+    if out.len() < end {
+        return end;
+    }
+    put(&mut out[at..], text);
+    end
+}
+
+// A line of values: the rest of the output from `at` on is lent to the routine that writes it.
+pub fn append_values(out: &mut [u8], at: usize, values: &[u16]) -> usize
+    requires { ⌜ Countable at (valuesLine (now values)) ⌝ }
+    ensures { λ r. ⌜ Appends (valuesLine (now (values .entry))) (now (out .entry)) (now (out .exit)) at r ⌝ }
+{
+    let end = at + line_length(values);
+    if out.len() < end {
+        return end;
+    }
+    lay_values(&mut out[at..], values);
+    end
 }

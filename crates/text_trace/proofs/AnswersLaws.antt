@@ -5,40 +5,55 @@ use mathlib.Core.Path.{_≡_, refl}
 use mathlib.Core.Bool.{true, false, cond}
 use mathlib.Core.List.{List, [], _∷_, _++_}
 use lib.Dec.{leb, eqb}
-use lib.ListN.{length, drop, length-append, length-drop}
+use lib.ListN.{length, length-append}
 use borrow.Author.Tests.{leb-true, eqb-true}
 use Rattle.lists.specs.Lists.{all}
 use Rattle.lists.proofs.Tests.{Case, pass, fail, case, and-l}
-use Rattle.machine.specs.State.{State, Outcome}
-use Rattle.machine.specs.Step.{step}
+use Rattle.machine.specs.State.{State}
 use Rattle.machine.specs.Empty.{emptyDock}
-use Rattle.machine.specs.Sequence.{enter}
 use Rattle.text.specs.Bytes.{bytes, space, lineEnd}
+use Rattle.text.specs.Names.{behindNames}
 use Rattle.text.specs.Reading.{inFront, cut, lines, fields, isValue, hasValues}
-use Rattle.trace_texts.specs.Line.{inForm, sentBy, answerLine, firstByte, otherLine}
-use Rattle.text_trace_lines.proofs.AnswerLine.{answer-short, other-short}
-use Rattle.trace_texts.specs.Trace.{outputNames, answers, behindNames, inputOk, trace}
+use Rattle.trace_texts.specs.Line.{inputColumns, inForm, sentBy, answerLine, firstByte, otherLine}
+use Rattle.trace_texts.specs.Trace.{longestInput, traceRoom, outputNames, servedBy, answerTo, leftBy, answers, afterLines, inputOk, trace}
+use Rattle.text_trace.proofs.AnswerLine.{answer-short, other-short}
 
 -- ---- line by line
--- what the request of a line meets and leaves
-abbrev pub servedBy : State → List ℕ → Outcome
-servedBy s line = step (enter s (sentBy line)) (sentBy line .request)
+module _ (number : ℕ) (s : State) (line : List ℕ) where
+  pub answer-served : inForm line ≡ true
+      → answerTo number s line ≡ answerLine number (servedBy s line .answer) (firstByte (sentBy line .request) (servedBy s line))
+  unfolding answerTo
+  answer-served e = rw e
+
+  pub answer-other : inForm line ≡ false → answerTo number s line ≡ otherLine number
+  unfolding answerTo
+  answer-other e = rw e
+
+module _ (s : State) (line : List ℕ) where
+  pub left-served : inForm line ≡ true → leftBy s line ≡ servedBy s line .state
+  unfolding leftBy
+  left-served e = rw e
+
+  pub left-other : inForm line ≡ false → leftBy s line ≡ s
+  unfolding leftBy
+  left-other e = rw e
 
 pub answers-none : (number : ℕ) (s : State) → answers number s [] ≡ []
 unfolding answers
 answers-none number s = refl
 
-module _ (number : ℕ) (s : State) (line : List ℕ) (later : List (List ℕ)) where
-  pub answers-served : inForm line ≡ true
-      → answers number s (line ∷ later)
-      ≡ answerLine number (servedBy s line .answer) (firstByte (sentBy line .request) (servedBy s line))
-      ++ answers (number + 1) (servedBy s line .state) later
-  unfolding answers
-  answers-served e = rw e
+pub answers-more : (number : ℕ) (s : State) (line : List ℕ) (later : List (List ℕ))
+    → answers number s (line ∷ later) ≡ answerTo number s line ++ answers (number + 1) (leftBy s line) later
+unfolding answers
+answers-more number s line later = refl
 
-  pub answers-other : inForm line ≡ false → answers number s (line ∷ later) ≡ otherLine number ++ answers (number + 1) s later
-  unfolding answers
-  answers-other e = rw e
+pub after-none : (s : State) → afterLines s [] ≡ s
+unfolding afterLines
+after-none s = refl
+
+pub after-more : (s : State) (line : List ℕ) (later : List (List ℕ)) → afterLines s (line ∷ later) ≡ afterLines (leftBy s line) later
+unfolding afterLines
+after-more s line later = refl
 
 -- ---- how long lines are, with a byte behind each
 span : List (List ℕ) → ℕ
@@ -79,24 +94,26 @@ fields-count (x ∷ xs) = go (fields-count xs) (case (eqb x space))
 formed-long : (line : List ℕ) → inForm line ≡ true → 1 ≤ length line
 unfolding inForm hasValues
 formed-long line e =
-    let ten = eqb-true (length (fields line)) 10
-    (and-l (eqb (length (fields line)) 10) (all isValue (fields line)) (and-l (hasValues 10 line) _ e)) in
+    let ten = eqb-true (length (fields line)) inputColumns
+    (and-l (eqb (length (fields line)) inputColumns) (all isValue (fields line)) (and-l (hasValues inputColumns line) _ e)) in
     omega (arith, fields-count line)
 
 -- ---- how long answers are
+answer-within : (number : ℕ) (s : State) (line : List ℕ) → length (answerTo number s line) ≤ 15 * (length line + 1)
+answer-within number s line = go (case (inForm line))
+  where
+    go : Case (inForm line) → length (answerTo number s line) ≤ 15 * (length line + 1)
+    go (pass e) =
+        let short = answer-short number (servedBy s line .answer) (firstByte (sentBy line .request) (servedBy s line)) in
+        rw (answer-served number s line e) (omega (arith, formed-long line e))
+    go (fail e) = rw (answer-other number s line e) (omega (arith, other-short number))
+
 answers-short : (number : ℕ) (s : State) (ls : List (List ℕ)) → length (answers number s ls) ≤ 15 * span ls
 unfolding span
 answers-short number s [] = rw (answers-none number s) (omega arith)
 answers-short number s (line ∷ later) =
-    go (answers-short (number + 1) (servedBy s line .state) later) (answers-short (number + 1) s later) (case (inForm line))
-  where
-    go : length (answers (number + 1) (servedBy s line .state) later) ≤ 15 * span later
-        → length (answers (number + 1) s later) ≤ 15 * span later → Case (inForm line)
-        → length (answers number s (line ∷ later)) ≤ 15 * (length line + 1 + span later)
-    go served other (pass e) =
-        let short = answer-short number (servedBy s line .answer) (firstByte (sentBy line .request) (servedBy s line)) in
-        rw (answers-served number s line later e) (simp length-append (omega (arith, formed-long line e)))
-    go served other (fail e) = rw (answers-other number s line later e) (simp length-append (omega (arith, other-short number)))
+    let more = answers-short (number + 1) (leftBy s line) later in
+    rw (answers-more number s line later) (simp length-append (omega (arith, answer-within number s line)))
 
 behind-span : (ls : List (List ℕ)) (n : ℕ) → span ls ≤ n + 1 → span (behindNames ls) ≤ n
 unfolding behindNames span
@@ -107,20 +124,19 @@ names-long : length outputNames ≡ 33
 unfolding outputNames bytes
 names-long = refl
 
-pub trace-short : (input : List ℕ) → length (trace input) ≤ 983074
-unfolding trace inputOk
+-- behind the line of names
+pub answers-fit : (input : List ℕ) → inputOk input ≡ true → 34 + length (answers 1 emptyDock (behindNames (lines input))) ≤ traceRoom
+unfolding inputOk
+answers-fit input e =
+    let short = leb-true (length input) longestInput (and-l (leb (length input) longestInput) _ e) in
+    let within = behind-span (lines input) longestInput (omega (arith, lines-span input)) in
+    omega (arith, answers-short 1 emptyDock (behindNames (lines input)))
+
+pub trace-short : (input : List ℕ) → length (trace input) ≤ traceRoom
+unfolding trace
 trace-short input = go (case (inputOk input))
   where
     go : Case (inputOk input)
-        → length (outputNames ++ lineEnd ∷ cond (inputOk input) (answers 1 emptyDock (behindNames (lines input))) (otherLine 0)) ≤ 983074
-    go (pass e) =
-        let short = leb-true (length input) 65536 (and-l (leb (length input) 65536) _ e) in
-        let within = behind-span (lines input) 65536 (omega (arith, lines-span input)) in
-        rw e (simp length-append (omega (arith, names-long, answers-short 1 emptyDock (behindNames (lines input)))))
+        → length (outputNames ++ lineEnd ∷ cond (inputOk input) (answers 1 emptyDock (behindNames (lines input))) (otherLine 0)) ≤ traceRoom
+    go (pass e) = rw e (simp length-append (omega (arith, names-long, answers-fit input e)))
     go (fail e) = rw e (simp length-append (omega (arith, names-long, other-short 0)))
-
--- the same for the lines behind the first byte, as the code has them
-pub answers-fit : (input : List ℕ) (start : ℕ) → length input ≤ 65536 → 1 ≤ start
-    → 34 + length (answers 1 emptyDock (lines (drop start input))) ≤ 983074
-answers-fit input start short behind =
-    omega (arith, answers-short 1 emptyDock (lines (drop start input)), lines-span (drop start input), length-drop start input)

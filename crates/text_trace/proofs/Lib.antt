@@ -1,3 +1,7 @@
+pub mod LineReading
+pub mod AnswerLine
 pub mod AnswersLaws
+pub mod SameDock
+pub mod LineServed
 pub mod TraceSteps
 pub mod WholeTrace

@@ -1,82 +1,126 @@
 -- The whole trace: the names, then the answers to the lines behind the input's names, or one line for an input that is refused.
-use Prim.Native.Nat.{ℕ, suc, _+_}
+use Prim.Native.Nat.{ℕ, _+_, _≤_, _<_}
 use native.Mathlib.Omega.{arith}
-use mathlib.Core.Path.{_≡_, refl, sym, ap, subst, _∙_}
-use mathlib.Core.Bool.{Bool, true, false, _&&_}
+use mathlib.Core.Path.{_≡_, sym, ap, subst, _∙_}
+use mathlib.Core.Bool.{true, false}
 use mathlib.Core.List.{List, [], _∷_, _++_}
-use lib.Dec.{leb}
-use lib.ListN.{length, take, drop}
+use lib.Dec.{eqb}
+use lib.ListN.{length, take, drop, replicate, length-replicate}
 use lib.Seq.{append-snoc, take-at}
-use Rattle.lists.specs.Lists.{firstIndex}
-use Rattle.machine.specs.Empty.{emptyDock}
-use Rattle.text.specs.Bytes.{bytes, lineEnd, sameBytes}
-use Rattle.text.specs.Reading.{lines, cut}
+use borrow.Author.Tests.{le-leb, lt-leb}
+use Rattle.lists.proofs.Tests.{and-false}
+use Rattle.lists.proofs.Search.{first-within}
+use Rattle.tables.specs.Names.{emptyTables}
+use Rattle.machine.specs.Empty.{emptyStore, emptyDock}
+use Rattle.preservation.proofs.EmptyDockInOrder.{empty-sized, empty-invariant}
+use Rattle.preservation.proofs.StepKeepsOrder.{PassesTests, tests-of}
+use Rattle.image.specs.Layout.{imageSize}
+use Rattle.image.specs.Image.{decode, isImage}
+use Rattle.image.proofs.EmptyImage.{empty-zeros, zeros-empty}
+use Rattle.image.proofs.RoundTrip.{encode-is-image}
+use Rattle.text.specs.declared.FirstLine.{FirstLine}
+use Rattle.text.specs.Bytes.{bytes, lineEnd}
+use Rattle.text.specs.Reading.{lines}
+use Rattle.text.specs.Names.{named, behindNames, firstLineOf}
 use Rattle.text.specs.Writing.{Writes}
-use Rattle.text.proofs.ReadingLaws.{upTo, lines-first}
+use Rattle.text.specs.Appending.{Appends, Countable}
+use Rattle.text.proofs.ReadingLaws.{upTo}
+use Rattle.text.proofs.NamesLaws.{lines-behind}
 use Rattle.text.proofs.WritingLaws.{writes-fits}
+use Rattle.text.proofs.Appending.{append-as, append-both}
 use Rattle.trace_texts.specs.Line.{otherLine}
-use Rattle.text_trace_lines.specs.Appending.{Appends}
-use Rattle.text_trace_lines.proofs.Appending.{append-both}
-use Rattle.trace_texts.specs.Trace.{inputNames, outputNames, answers, named, behindNames, inputOk, trace}
-use Rattle.text_trace.proofs.AnswersLaws.{trace-short}
+use Rattle.trace_texts.specs.Trace.{longestInput, traceRoom, inputNames, outputNames, answers, inputOk, trace}
+use Rattle.text_trace.specs.Contract.{dockOf, Ready}
+use Rattle.text_trace.proofs.AnswerLine.{other-short}
+use Rattle.text_trace.proofs.AnswersLaws.{answers-fit, trace-short}
 
--- ---- the input's names
-named-first : (input : List ℕ) → named (lines input) ≡ sameBytes (take (upTo lineEnd input) input) inputNames
-unfolding named lines cut firstIndex sameBytes inputNames bytes
-named-first [] = refl
-named-first (x ∷ xs) = ap named (lines-first (x ∷ xs) (omega arith))
+-- ---- the emptied dock, as an image and a store of zeros
+zeros-tables : decode (replicate imageSize 0) ≡ emptyTables
+zeros-tables = zeros-empty empty-sized
 
-behind-first : (input : List ℕ) → behindNames (lines input) ≡ lines (drop (suc (upTo lineEnd input)) input)
-unfolding behindNames lines cut
-behind-first [] = refl
-behind-first (x ∷ xs) = ap behindNames (lines-first (x ∷ xs) (omega arith))
+pub zeros-dock : dockOf (replicate imageSize 0) (replicate 16384 0) ≡ emptyDock
+unfolding emptyDock
+zeros-dock i = record { tables = zeros-tables i; store = emptyStore; sheet = replicate 64 0 }
 
-module _ (input : List ℕ) (end : ℕ) (ends : end ≡ upTo lineEnd input) where
-  pub input-ok-is : inputOk input ≡ (leb (length input) 65536 && sameBytes (take end input) inputNames)
+pub zeros-ready : Ready (replicate imageSize 0) (replicate 16384 0)
+zeros-ready =
+    let p : PassesTests (decode (replicate imageSize 0)) = subst PassesTests (sym zeros-tables) (tests-of emptyTables empty-invariant) in
+    record {
+      is = ap isImage (sym empty-zeros) ∙ encode-is-image emptyTables;
+      order = p .order;
+      noFar = p .noFar;
+      store = length-replicate {A = ℕ} 16384 0;
+    }
+
+-- ---- the input
+module _ (input : List ℕ) where
+  pub too-long : longestInput < length input → inputOk input ≡ false
   unfolding inputOk
-  input-ok-is =
-      ap (λ (b : Bool). leb (length input) 65536 && b) (named-first input ∙ ap (λ (n : ℕ). sameBytes (take n input) inputNames) (sym ends))
+  too-long h = rw (lt-leb (length input) longestInput h)
 
-  pub lines-behind : behindNames (lines input) ≡ lines (drop (end + 1) input)
-  lines-behind =
-      let e : suc (upTo lineEnd input) ≡ end + 1 = omega arith in
-      behind-first input ∙ ap (λ (n : ℕ). lines (drop n input)) e
+  module _ (first : FirstLine) (told : first ≡ firstLineOf inputNames input) where
+    first-ok : first .ok ≡ named inputNames (lines input)
+    unfolding firstLineOf
+    first-ok = ap (λ (f : FirstLine). f .ok) told
+
+    first-end : first .end ≡ upTo lineEnd input
+    unfolding firstLineOf
+    first-end = ap (λ (f : FirstLine). f .end) told
+
+    pub other-names : first .ok ≡ false → inputOk input ≡ false
+    unfolding inputOk
+    other-names e = rw (sym first-ok ∙ e, and-false)
+
+    pub is-ok : length input ≤ longestInput → first .ok ≡ true → inputOk input ≡ true
+    unfolding inputOk
+    is-ok h e = rw (le-leb (length input) longestInput h) (sym first-ok ∙ e)
+
+    pub end-inside : first .end ≤ length input
+    end-inside = omega (arith, first-end, first-within (λ b. eqb b lineEnd) input)
+
+    pub behind-first : behindNames (lines input) ≡ lines (drop (first .end + 1) input)
+    behind-first = lines-behind input (first .end) first-end
 
 -- ---- the output
-abbrev namesLine : List ℕ
+abbrev pub namesLine : List ℕ
 namesLine = outputNames ++ lineEnd ∷ []
 
-module _ (out middle : List ℕ) (r : ℕ) (w : Writes namesLine out middle r) (kept : length middle ≡ length out) where
-  names-long : length namesLine ≡ 34
+module _ (out middle : List ℕ) (at : ℕ) (names : Appends namesLine out middle 0 at) where
+  pub names-end : at ≡ 34
   unfolding outputNames bytes
-  names-long = refl
+  names-end = omega (arith, names .total)
 
-  names-put : Appends namesLine out middle 0 34
-  names-put = record {
-    total = omega (arith, names-long);
-    size = kept;
-    output = λ fits.
-        let z : 0 + length namesLine ≡ length namesLine = omega arith in
-        writes-fits namesLine out middle r (omega arith) w .0 ∙ ap (λ (n : ℕ). namesLine ++ drop n out) (sym z);
-  }
+  pub refused-fits : Countable at (otherLine 0)
+  refused-fits = omega (arith, names-end, other-short 0)
 
   module _ (input after : List ℕ) (answer : ℕ) where
-    pub refused-trace : inputOk input ≡ false → Appends (otherLine 0) middle after 34 answer → Appends (trace input) out after 0 answer
+    pub refused-trace : inputOk input ≡ false → Appends (otherLine 0) middle after at answer → Appends (trace input) out after 0 answer
     unfolding trace
     refused-trace e put =
-        rw e (subst (λ (l : List ℕ). Appends l out after 0 answer) (append-snoc outputNames lineEnd (otherLine 0))
-        (append-both namesLine (otherLine 0) out middle after 0 34 answer names-put put))
+        rw e (append-as _ _ out after 0 answer (append-snoc outputNames lineEnd (otherLine 0))
+        (append-both namesLine (otherLine 0) out middle after 0 at answer names put))
 
-    pub served-trace : inputOk input ≡ true → Appends (answers 1 emptyDock (behindNames (lines input))) middle after 34 answer
+    pub served-trace : inputOk input ≡ true → Appends (answers 1 emptyDock (behindNames (lines input))) middle after at answer
         → Appends (trace input) out after 0 answer
     unfolding trace
     served-trace e put =
         let served = answers 1 emptyDock (behindNames (lines input)) in
-        rw e (subst (λ (l : List ℕ). Appends l out after 0 answer) (append-snoc outputNames lineEnd served)
-        (append-both namesLine served out middle after 0 34 answer names-put put))
+        rw e (append-as _ _ out after 0 answer (append-snoc outputNames lineEnd served)
+        (append-both namesLine served out middle after 0 at answer names put))
 
--- an output of `buffer`'s length takes every trace
-pub whole-in-buffer : (input before after : List ℕ) (r : ℕ) → length before ≡ 983074 → Writes (trace input) before after r
+-- ---- the answers from zeros on
+module _ (input : List ℕ) (first : FirstLine) (told : first ≡ firstLineOf inputNames input) where
+  pub served-answers : answers 1 emptyDock (behindNames (lines input))
+      ≡ answers 1 (dockOf (replicate imageSize 0) (replicate 16384 0)) (lines (drop (first .end + 1) input))
+  served-answers i = answers 1 (sym zeros-dock i) (behind-first input first told i)
+
+  pub served-fits : (at : ℕ) → at ≡ 34 → inputOk input ≡ true
+      → Countable at (answers 1 (dockOf (replicate imageSize 0) (replicate 16384 0)) (lines (drop (first .end + 1) input)))
+  served-fits at e ok =
+      subst (Countable at) served-answers (omega (arith, e, answers-fit input ok))
+
+-- ---- an output of `traceRoom` bytes takes every trace
+pub whole-in-buffer : (input before after : List ℕ) (r : ℕ) → length before ≡ traceRoom → Writes (trace input) before after r
     → take r after ≡ trace input
 whole-in-buffer input before after r long w =
     let (output, total) = writes-fits (trace input) before after r (omega (arith, trace-short input)) w in

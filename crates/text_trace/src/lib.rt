@@ -1,84 +1,208 @@
 // The trace: a text of requests in, a text of answers out. It starts from an emptied dock and keeps the tables' image to itself, so it calls the
 // inner step and pays for no order test; its contract speaks of the public one.
-ghost use Prim.Native.Nat.{_+_, _≤_};
+ghost use Prim.Native.Nat.{_<_};
 ghost use mathlib.Core.Path.{_≡_};
-ghost use mathlib.Core.Bool.{_&&_};
-ghost use lib.Dec.{leb};
-ghost use lib.ListN.{length, take, drop};
-ghost use Rattle.machine.specs.Empty.{emptyDock};
-ghost use Rattle.text.specs.Bytes.{sameBytes};
+ghost use mathlib.Core.Bool.{_&&_, cond};
+ghost use lib.Dec.{leb, eqb};
+ghost use lib.ListN.{length, getD, drop};
 ghost use Rattle.text.specs.Reading.{lines};
 ghost use Rattle.text.specs.Writing.{Writes};
-ghost use Rattle.text_trace_lines.specs.Appending.{Appends};
+ghost use Rattle.text.specs.Appending.{Appends, Countable};
+ghost use Rattle.trace_texts.specs.Line.{fillOk, answerLine, otherLine};
 ghost use Rattle.trace_texts.specs.Trace as spec;
+ghost use Rattle.text_trace.specs.Contract.{Reads, dockOf, Ready, LinesFrom, Holds};
+use image::IMAGE;
+use machine::Answer;
+use machine::Request;
 
 // The longest input, in bytes.
-const LONGEST: usize = 65536;
+pub const LONGEST: usize = 65536;
 
 // Bytes that every trace has room in: the names, and at most fifteen for each byte of the input.
 pub const ROOM: usize = 983074;
 
-// The line of the output's names, in bytes.
-const NAMES: usize = 34;
+const STORE: usize = 16384;
+
+const SHEET: usize = 64;
 
 const LINE_END: u8 = 10;
 
-// The answers to the lines from `start` on go behind the names.
-fn put_answers(input: &[u8], start: usize, out: &mut [u8]) -> usize
-    requires { ⌜ (length (now input) ≤ 65536) × ((1 ≤ start) × (start ≤ length (now input) + 1)) ⌝ }
-    ensures { λ r. ⌜ Appends (spec.answers 1 emptyDock (lines (drop start (now (input .entry))))) (now (out .entry)) (now (out .exit)) 34 r ⌝ }
+// ---- a line of the input
+
+// The request's nine numbers and the fill.
+const COLUMNS: usize = 10;
+
+// What a line asks for.
+pub struct Asked {
+    pub formed: bool,
+    pub request: Request,
+    pub fill: u8,
+}
+
+fn fill_ok(op: u16, fill: u16) -> bool
+    ensures { λ r. ⌜ r ≡ fillOk op fill ⌝ }
 {
-    let mut store = [0u8; 16384];
-    let mut sheet = [0u8; 64];
-    let mut image = [0u8; 11328];
-    let emptied = step::empty(&mut store);
-    let t = emptied.tables;
-    image_records::tables(&mut image, t);
-    let mut at = start;
-    let mut number: u16 = 0;
-    let mut total = NAMES;
-    while at < input.len() {
-        let end = at + text::find(&input[at..], LINE_END);
-        let a = text_trace_lines::read_line(&input[at..end]);
-        at = end + 1;
-        number = number + 1;
-        if a.formed {
-            let r = a.request;
-            text_trace_lines::fill_sheet(&mut sheet, a.fill);
-            let answer = op_serve::request(&mut image, &mut store, &mut sheet, r);
-            let byte = text_trace_lines::first_byte(r.op, answer.result, &sheet);
-            total = text_trace_lines::put_answer(out, total, number, answer, byte);
-        } else {
-            total = text_trace_lines::put_other(out, total, number);
-        }
+    if op == 6 {
+        return fill <= 255;
+    }
+    fill == 0
+}
+
+fn read_line(line: &[u8]) -> Asked
+    ensures { λ a. ⌜ Reads (now (line .entry)) a ⌝ }
+{
+    let mut v = [0u16; COLUMNS];
+    let formed = text::read_values(line, &mut v);
+    let op = v[2];
+    let fill = v[9];
+    let r = Request {
+        pad: v[0],
+        program: v[1],
+        op: op,
+        ticket: v[3],
+        topad: v[4],
+        toprogram: v[5],
+        first: v[6],
+        count: v[7],
+        rights: v[8],
+    };
+    if !formed {
+        return Asked {
+            formed: false,
+            request: r,
+            fill: 0,
+        };
+    }
+    if !fill_ok(op, fill) {
+        return Asked {
+            formed: false,
+            request: r,
+            fill: 0,
+        };
+    }
+    Asked {
+        formed: true,
+        request: r,
+        fill: (fill % 256) as u8,
+    }
+}
+
+// ---- a line of the output
+
+fn wide(b: u8) -> u16
+    ensures { λ r. ⌜ r ≡ b ⌝ }
+{
+    b as u16
+}
+
+// The first byte of an accepted read, or 0.
+fn first_byte(op: u16, result: u16, sheet: &[u8]) -> u16
+    requires { ⌜ 0 < length (now sheet) ⌝ }
+    ensures { λ r. ⌜ r ≡ cond (eqb op 5 && eqb result 0) (getD (now (sheet .entry)) 0 0) 0 ⌝ }
+{
+    if op != 5 {
+        return 0;
+    }
+    if result != 0 {
+        return 0;
+    }
+    wide(sheet[0])
+}
+
+fn append_answer(out: &mut [u8], at: usize, number: u16, a: Answer, byte: u16) -> usize
+    requires { ⌜ Countable at (answerLine number a byte) ⌝ }
+    ensures { λ r. ⌜ Appends (answerLine number a byte) (now (out .entry)) (now (out .exit)) at r ⌝ }
+{
+    let values = [number, a.result, a.ticket, a.recipient, byte];
+    text::append_values(out, at, &values)
+}
+
+fn append_other(out: &mut [u8], at: usize, number: u16) -> usize
+    requires { ⌜ Countable at (otherLine number) ⌝ }
+    ensures { λ r. ⌜ Appends (otherLine number) (now (out .entry)) (now (out .exit)) at r ⌝ }
+{
+    let other = Answer {
+        result: 15,
+        ticket: 0,
+        recipient: 0,
+    };
+    append_answer(out, at, number, other, 0)
+}
+
+// ---- lines, over the image and the store that the caller lends
+
+// One line's whole work: it is read, its request served, the answer appended.
+fn serve_line(
+    tables: &mut [u8],
+    store: &mut [u8],
+    line: &[u8],
+    number: u16,
+    out: &mut [u8],
+    at: usize,
+) -> usize
+    requires { ⌜ Ready (now tables) (now store) × Countable at (spec.answerTo number (dockOf (now tables) (now store)) (now line)) ⌝ }
+    ensures { λ r. ⌜ Appends (spec.answerTo number (dockOf (now (tables .entry)) (now (store .entry))) (now (line .entry))) (now (out .entry)) (now (out .exit)) at r ⌝ }
+    ensures { λ _. ⌜ Holds (spec.leftBy (dockOf (now (tables .entry)) (now (store .entry))) (now (line .entry))) (now (tables .exit)) (now (store .exit)) ⌝ }
+{
+    let a = read_line(line);
+    if !a.formed {
+        return append_other(out, at, number);
+    }
+    let r = a.request;
+    let fill = a.fill;
+    let mut sheet = [fill; SHEET];
+    let answer = op_serve::request(tables, store, &mut sheet, r);
+    let byte = first_byte(r.op, answer.result, &sheet);
+    append_answer(out, at, number, answer, byte)
+}
+
+// The lines from `start` on, one after the other.
+pub fn serve_lines(
+    tables: &mut [u8],
+    store: &mut [u8],
+    input: &[u8],
+    start: usize,
+    out: &mut [u8],
+    at: usize,
+) -> usize
+    requires { ⌜ Ready (now tables) (now store) × (LinesFrom start (now input) × Countable at (spec.answers 1 (dockOf (now tables) (now store)) (lines (drop start (now input))))) ⌝ }
+    ensures { λ r. ⌜ Appends (spec.answers 1 (dockOf (now (tables .entry)) (now (store .entry))) (lines (drop start (now (input .entry))))) (now (out .entry)) (now (out .exit)) at r ⌝ }
+    ensures { λ _. ⌜ Holds (spec.afterLines (dockOf (now (tables .entry)) (now (store .entry))) (lines (drop start (now (input .entry))))) (now (tables .exit)) (now (store .exit)) ⌝ }
+{
+    let mut from = start;
+    let mut done: u16 = 0;
+    let mut total = at;
+    while from < input.len() {
+        let end = from + text::find(&input[from..], LINE_END);
+        let number = done + 1;
+        total = serve_line(tables, store, &input[from..end], number, out, total);
+        done = number;
+        from = end + 1;
     }
     total
 }
 
-// Is the input short enough, and its first line, up to `end`, the names?
-fn input_ok(input: &[u8], end: usize) -> bool
-    requires { ⌜ end ≤ length (now input) ⌝ }
-    ensures { λ r. ⌜ r ≡ (leb (length (now (input .entry))) 65536 && sameBytes (take end (now (input .entry))) spec.inputNames) ⌝ }
-{
-    if LONGEST < input.len() {
-        return false;
-    }
-    text::same(
-        &input[..end],
-        b"pad program op ticket topad toprogram first count rights fill",
-    )
-}
+// ---- the whole
 
-// The whole trace goes to the front of the output, if it has room there. Its length counts in any case.
+// The whole trace goes to the front of the output, if it has room there. Its length counts in any case. Zeros are the emptied dock.
 fn put_trace(input: &[u8], out: &mut [u8]) -> usize
     ensures { λ r. ⌜ Appends (spec.trace (now (input .entry))) (now (out .entry)) (now (out .exit)) 0 r ⌝ }
 {
-    text::put(out, b"line result ticket recipient byte\n");
-    let end = text::find(input, LINE_END);
-    if !input_ok(input, end) {
-        return text_trace_lines::put_other(out, NAMES, 0);
+    let at = text::append(out, 0, b"line result ticket recipient byte\n");
+    if LONGEST < input.len() {
+        return append_other(out, at, 0);
     }
-    put_answers(input, end + 1, out)
+    let first = text::first_line(
+        input,
+        b"pad program op ticket topad toprogram first count rights fill",
+    );
+    if !first.ok {
+        return append_other(out, at, 0);
+    }
+    let start = first.end + 1;
+    let mut tables = [0u8; IMAGE];
+    let mut store = [0u8; STORE];
+    serve_lines(&mut tables, &mut store, input, start, out, at)
 }
 
 // Does the trace fit into so many bytes? Where that is not known beforehand it is run once to no output, for its length.
@@ -106,7 +230,7 @@ pub fn trace(input: &[u8], out: &mut [u8]) -> usize
 
 // An output that every trace fits into.
 pub fn buffer() -> [u8; ROOM]
-    ensures { λ r. ⌜ length r ≡ 983074 ⌝ }
+    ensures { λ r. ⌜ length r ≡ spec.traceRoom ⌝ }
 {
     [0; ROOM]
 }

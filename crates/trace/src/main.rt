@@ -2,11 +2,12 @@
 ghost use Prim.Native.Nat.{_≤_};
 ghost use mathlib.Core.Path.{_≡_};
 ghost use lib.ListN.{length, take};
-ghost use Rattle.trace_texts.specs.Trace.{trace};
+ghost use Rattle.trace_texts.specs.Trace.{traceRoom, trace};
+use text_trace::LONGEST;
 
 // The trace in a buffer that every trace fits into: it is never refused.
 fn whole_trace(input: &[u8], out: &mut [u8]) -> usize
-    requires { ⌜ length (now out) ≡ 983074 ⌝ }
+    requires { ⌜ length (now out) ≡ traceRoom ⌝ }
     ensures { λ r. ⌜ r ≤ length (now (out .exit)) ⌝ }
     ensures { λ r. ⌜ take r (now (out .exit)) ≡ trace (now (input .entry)) ⌝ }
 {
@@ -15,7 +16,7 @@ fn whole_trace(input: &[u8], out: &mut [u8]) -> usize
 
 // One byte past the longest input is enough to know that it is too long.
 fn main() {
-    let mut input = [0u8; 65537];
+    let mut input = [0u8; LONGEST + 1];
     let mut out = text_trace::buffer();
     let read = io::read_full(0, &mut input);
     let written = whole_trace(&input[..read], &mut out);

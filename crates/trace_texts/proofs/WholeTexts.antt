@@ -7,10 +7,10 @@ use mathlib.Core.Path.{_≡_, refl}
 use Rattle.lists.specs.Tests.{implies, between}
 use Rattle.lists.specs.Lists.{firstIndex, all, some, noTwo, allAt, someAt, mapAt, least}
 use Rattle.rights.specs.Rules.{within}
-use Rattle.tables.specs.Names.{nameOf, eqName, isProgram, sameProgram, emptyTables}
+use Rattle.tables.specs.Names.{eqName, isProgram, sameProgram, emptyTables}
 use Rattle.tables.specs.Lookup.{hasNumber, ticketIn, lookup, isNamed, entryIn}
 use Rattle.tables.specs.Chains.{reaches, endOf}
-use Rattle.tables.specs.Sheets.{apart, inside, outside, isFreeRun, lowestRun, hasRun, runAt, smallestRun, liveEntries, bestRun}
+use Rattle.tables.specs.Sheets.{apart, inside, outside, isFreeRun, lowestRun, hasRun}
 use Rattle.tables.specs.Order.{everyTicketOf, everyTicket, someTicketOf, someTicket, everyEntry, numbersOk, t1, spanOk, t2, parentOk, childOk, t3, t4, entryNamesOk, grantOk, parentEntryOk, entryOk, rootsOk, t5, recallParentOk, isChildOf, farTargetOk, targetOk, recallOk, t6, inOrder}
 use Rattle.tables.specs.Change.{isFree, hasPlace, withTicket, withProgram, give, isSpare, putEntry, dropTicket, dropInProgram, dropInPad, dropTickets, dropEntry, dropEntries}
 use Rattle.machine.specs.State.{accepted, refused, withTables, sheetAt, putSheets, clearSheets}
@@ -18,18 +18,19 @@ use Rattle.machine.specs.Refusal.{_when_else_, isSpent}
 use Rattle.machine.specs.Operation.{operationOf, usedBy, fieldOk, fieldsOk}
 use Rattle.machine.specs.Take.{takeRefusal, takeTables, afterTake}
 use Rattle.machine.specs.Pass.{passRefusal, passTables, afterPass}
-use Rattle.machine.specs.Recall.{recallRefusal, lentAway, recallTables, afterRecall}
+use Rattle.machine.specs.Recall.{recallRefusal, recallTables, afterRecall}
 use Rattle.machine.specs.GiveBack.{giveBackRefusal, giveBackTables, afterGiveBack}
 use Rattle.machine.specs.Dock.{dockRefusal, dockCheck}
 use Rattle.machine.specs.Access.{accessRefusal, afterRead, afterWrite}
 use Rattle.machine.specs.Step.{ownRefusal, requestRefusal, lengthsOk, refusal, afterOwn, dropHead, outcome, step}
-use Rattle.machine.specs.Empty.{emptied, emptyStore, emptyDock}
+use Rattle.machine.specs.Empty.{emptied, emptyDock}
 use Rattle.machine.specs.Sequence.{enter}
 use Rattle.text.specs.Bytes.{bytes, lineEnd, sameBytes}
 use Rattle.text.specs.Reading.{inFront, cut, lines, fields, isDigit, numberFrom, isNumber, noLeadingZero, isValue, hasValues, valuesOf}
+use Rattle.text.specs.Names.{named, behindNames}
 use Rattle.text.specs.Writing.{digits, places, decimal, behind, valuesLine}
 use Rattle.trace_texts.specs.Line.{fillOk, inForm, sentBy, answerLine, firstByte, otherLine}
-use Rattle.trace_texts.specs.Trace.{inputNames, outputNames, answers, named, behindNames, inputOk, trace}
+use Rattle.trace_texts.specs.Trace.{inputNames, outputNames, answerTo, leftBy, answers, inputOk, trace}
 
 -- lines, each ended by byte 10
 unfoldable pub ended : List String → List ℕ
@@ -148,17 +149,17 @@ pub record Texts : Type 0 where
 pub texts : Texts
 unfolding implies between firstIndex all some noTwo allAt someAt mapAt least within
     eqName isProgram sameProgram emptyTables hasNumber ticketIn lookup isNamed entryIn reaches endOf
-    apart inside outside isFreeRun lowestRun hasRun runAt smallestRun liveEntries bestRun
+    apart inside outside isFreeRun lowestRun hasRun
     everyTicketOf everyTicket someTicketOf someTicket everyEntry numbersOk t1 spanOk t2 parentOk childOk t3 t4
     entryNamesOk grantOk parentEntryOk entryOk rootsOk t5 recallParentOk isChildOf farTargetOk targetOk recallOk t6 inOrder
     isFree hasPlace withTicket withProgram give isSpare putEntry dropTicket dropInProgram dropInPad dropTickets dropEntry dropEntries
     accepted refused withTables sheetAt putSheets clearSheets _when_else_ isSpent operationOf usedBy fieldOk fieldsOk
-    takeRefusal takeTables afterTake passRefusal passTables afterPass recallRefusal lentAway recallTables afterRecall
+    takeRefusal takeTables afterTake passRefusal passTables afterPass recallRefusal recallTables afterRecall
     giveBackRefusal giveBackTables afterGiveBack dockRefusal dockCheck accessRefusal afterRead afterWrite
     ownRefusal requestRefusal lengthsOk refusal afterOwn dropHead outcome step emptied emptyDock
     bytes sameBytes inFront cut lines fields isDigit numberFrom isNumber noLeadingZero isValue hasValues valuesOf
     digits places decimal behind valuesLine enter fillOk inForm sentBy answerLine firstByte otherLine
-    inputNames outputNames answers named behindNames inputOk trace ended m1-input m1-output forms-input forms-output refused-output names
+    inputNames outputNames answerTo leftBy answers named behindNames inputOk trace ended m1-input m1-output forms-input forms-output refused-output names
 texts = record {
   m1 = refl;
   forms = refl;

@@ -11,6 +11,9 @@ use Rattle.text.specs.Reading.{hasValues, valuesOf}
 use Rattle.text.specs.Writing.{valuesLine}
 
 -- ---- a line of the input: the request's nine numbers and the fill, in the order of the names
+abbrev pub inputColumns : ℕ
+inputColumns = 10
+
 abbrev pub requestOf : List ℕ → Request
 requestOf values = record {
   pad = getD values 0 0;
@@ -31,9 +34,9 @@ fillOf values = getD values 9 0
 unfoldable pub fillOk : ℕ → ℕ → Bool
 fillOk op fill = cond (eqb op 6) (leb fill 255) (eqb fill 0)
 
--- ten values, and a fill that the op may have
+-- a value for each name, and a fill that the op may have
 unfoldable pub inForm : List ℕ → Bool
-inForm line = let values = valuesOf line in hasValues 10 line && fillOk (requestOf values .op) (fillOf values)
+inForm line = let values = valuesOf line in hasValues inputColumns line && fillOk (requestOf values .op) (fillOf values)
 
 -- the request of a line in form, with its sheet buffer
 unfoldable pub sentBy : List ℕ → Sent
@@ -42,6 +45,9 @@ sentBy line =
     record { request = requestOf values; sheet = replicate 64 (fillOf values); whole = length-replicate 64 (fillOf values) }
 
 -- ---- a line of the output: "the line's number from 1, the answer's three numbers, and the first byte of an accepted read or 0"
+abbrev pub outputColumns : ℕ
+outputColumns = 5
+
 unfoldable pub answerLine : ℕ → Answer → ℕ → List ℕ
 answerLine number a byte = valuesLine (number ∷ a .result ∷ a .ticket ∷ a .recipient ∷ byte ∷ [])
 

@@ -1,11 +1,12 @@
 -- A room as long as every trace is enough; for another the trace, run to no output, tells its length.
 use Prim.Native.Nat.{ℕ}
 use native.Mathlib.Omega.{arith}
-use mathlib.Core.Path.{_≡_, sym, ap}
+use mathlib.Core.Path.{sym, ap}
 use lib.Dec.{leb}
 use lib.ListN.{length}
 use borrow.Author.Needs.{needs}
 use borrow.Author.Tests.{le-leb}
+use Rattle.text.proofs.Appending.{measured}
 use Rattle.trace_texts.specs.Trace.{trace}
 use Rattle.text_trace.proofs.AnswersLaws.{trace-short}
 use Rattle.text_trace.proofs.fits.Statement.{statement}
@@ -31,8 +32,7 @@ returns-2 c =
     let c1 = c .before in
     let c5 = c1 .before .before .before .before in
     let a = c5 .args in
-    let total : c1 .put-trace .result ≡ length (trace (a .input .now)) = omega (arith, c1 .put-trace .ensures .total) in
-    ap (λ (n : ℕ). leb n (a .room)) total
+    ap (λ (n : ℕ). leb n (a .room)) (measured _ _ _ _ (c1 .put-trace .ensures))
 
 pub fits-spec : {M : Type 1} → statement M
 fits-spec =

@@ -1,11 +1,8 @@
 -- A trace that fits goes to the front of the output; another is refused.
-use native.Mathlib.Omega.{arith}
 use mathlib.Core.Path.{sym, _∙_}
-use lib.ListN.{length}
 use borrow.Author.Needs.{needs}
-use borrow.Author.Tests.{leb-true, leb-false, not-true, not-false}
-use Rattle.text.proofs.WritingLaws.{writes-none, writes-all}
-use Rattle.text_trace_lines.proofs.Appending.{written-front}
+use borrow.Author.Tests.{not-true, not-false}
+use Rattle.text.proofs.Appending.{write-tested, refuse-tested}
 use Rattle.trace_texts.specs.Trace.{trace}
 use Rattle.text_trace.proofs.trace.Statement.{statement}
 use Rattle.text_trace.proofs.trace.Tie as tie
@@ -18,7 +15,7 @@ returns c =
     let c4 = c .before .before .before .before in
     let text = trace (c4 .args .input .now) in
     let out = c4 .args .out .now in
-    writes-none text out (leb-false (length text) (length out) (sym (c .before .fits2 .ensures) ∙ not-true _ (c .if1 .taken)))
+    refuse-tested text out (sym (c .before .fits2 .ensures) ∙ not-true _ (c .if1 .taken))
 
 put-trace-requires : tie.Need-put-trace-requires
 put-trace-requires c κs = search needs
@@ -33,9 +30,7 @@ returns-2 c =
     let c8 = c5 .before .before .before in
     let text = trace (c8 .args .input .now) in
     let out = c8 .args .out .now in
-    let room = leb-true (length text) (length out) (sym (c5 .fits2 .ensures) ∙ not-false _ (c4 .if1 .left)) in
-    let put = c .before .before .put-trace .ensures in
-    writes-all text out _ _ room (written-front text out _ _ room put) (omega (arith, put .total))
+    write-tested text out _ _ (sym (c5 .fits2 .ensures) ∙ not-false _ (c4 .if1 .left)) (c .before .before .put-trace .ensures)
 
 pub trace-spec : {M : Type 1} → statement M
 trace-spec = tie.close (tie.spec fits-requires returns put-trace-requires same-length returns-2)

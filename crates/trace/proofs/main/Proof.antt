@@ -1,9 +1,10 @@
 -- What is read lies in the input buffer, and the trace in the output buffer.
-use Prim.Native.Nat.{ℕ}
+use Prim.Native.Nat.{ℕ, _+_}
 use mathlib.Core.Path.{sym}
 use lib.ListN.{length-replicate}
 use lib.Seq.{length-take-le}
 use borrow.Author.Needs.{needs}
+use Rattle.trace_texts.specs.Trace.{longestInput}
 use Rattle.trace.proofs.main.Statement.{statement}
 use Rattle.trace.proofs.main.Tie as tie
 
@@ -11,7 +12,7 @@ buffer-requires : tie.Need-buffer-requires
 buffer-requires c κs = search needs
 
 slice-aggregate-read-full : tie.Need-slice-aggregate-read-full
-slice-aggregate-read-full c = sym (length-replicate {A = ℕ} 65537 0)
+slice-aggregate-read-full c = sym (length-replicate {A = ℕ} (longestInput + 1) 0)
 
 read-full-requires : tie.Need-read-full-requires
 read-full-requires c κs = search needs

@@ -1,0 +1,103 @@
+-- One line's work: the request of a line in form is served by the inner step on the lent image and store, and one of another form changes
+-- nothing.
+use Prim.Native.Nat.{ℕ, _<_}
+use mathlib.Core.Path.{_≡_, refl, sym, ap, subst, _∙_}
+use mathlib.Core.Bool.{true, false, _&&_, cond}
+use mathlib.Core.List.{List}
+use lib.Dec.{eqb}
+use lib.ListN.{length, getD, replicate}
+use Rattle.lists.proofs.Tests.{Case, pass, fail, case}
+use Rattle.machine.specs.declared.Answer.{Answer}
+use Rattle.machine.specs.State.{State, Outcome}
+use Rattle.machine.specs.Step.{serve}
+use Rattle.machine.specs.Sequence.{enter}
+use Rattle.preservation.proofs.StepKeepsOrder.{PassesTests, invariant-of, step-is-serve, step-keeps-tests}
+use Rattle.image.specs.Image.{encode, decode, isImage}
+use Rattle.image.proofs.RoundTrip.{encode-decode, encode-is-image}
+use Rattle.image_find.proofs.Laws.{decoded-sized}
+use Rattle.op_outcome.specs.Outcomes.{stateOf}
+use Rattle.op_serve.specs.Contract.{LeavesLent}
+use Rattle.trace_texts.specs.Line.{inForm, sentBy, answerLine, firstByte, otherLine}
+use Rattle.trace_texts.specs.Trace.{servedBy, answerTo, leftBy}
+use Rattle.text_trace.specs.declared.Asked.{Asked}
+use Rattle.text_trace.specs.Contract.{Reads, dockOf, Ready, Holds}
+use Rattle.text_trace.proofs.AnswersLaws.{answer-served, answer-other, left-served, left-other}
+
+-- ---- an image that stays as it is
+pub same-image : (image : List ℕ) → ((j : ℕ) → getD image j 0 < 256) → (bytes : List ℕ) → Ready image bytes → image ≡ encode (decode image)
+same-image image small bytes ready = sym (encode-decode image small (ready .is))
+
+-- ---- in order from line to line
+pub passes : (image bytes : List ℕ) → Ready image bytes → PassesTests (decode image)
+passes image bytes ready = record { sized = decoded-sized image; order = ready .order; noFar = ready .noFar }
+
+left-passes : (s : State) (line : List ℕ) → PassesTests (s .tables) → PassesTests (leftBy s line .tables)
+unfolding enter
+left-passes s line p = go (case (inForm line))
+  where
+    go : Case (inForm line) → PassesTests (leftBy s line .tables)
+    go (pass e) = rw (left-served s line e) (step-keeps-tests (enter s (sentBy line)) (sentBy line .request) p)
+    go (fail e) = rw (left-other s line e) p
+
+pub still-ready : (image bytes line image′ bytes′ : List ℕ) → Ready image bytes → Holds (leftBy (dockOf image bytes) line) image′ bytes′
+    → length bytes′ ≡ 16384 → Ready image′ bytes′
+still-ready image bytes line image′ bytes′ ready h long =
+    let left = leftBy (dockOf image bytes) line .tables in
+    let p : PassesTests (decode image′) =
+    subst PassesTests (sym (h .decoded)) (left-passes (dockOf image bytes) line (passes image bytes ready)) in
+    record { is = ap isImage (h .tables) ∙ encode-is-image left; order = p .order; noFar = p .noFar; store = long }
+
+-- ---- what the routine appends and leaves
+module _ (image bytes line : List ℕ) (number : ℕ) (ready : Ready image bytes) (a : Asked) (read : Reads line a) where
+  abbrev here : State
+  here = dockOf image bytes
+
+  -- a line of another form
+  module _ (e : a .formed ≡ false) where
+    not-formed : inForm line ≡ false
+    not-formed = sym (read .formed) ∙ e
+
+    pub other-text : answerTo number here line ≡ otherLine number
+    other-text = answer-other number here line not-formed
+
+    pub other-holds : ((j : ℕ) → getD image j 0 < 256) → Holds (leftBy here line) image bytes
+    other-holds small =
+        rw (left-other here line not-formed) (record { tables = same-image image small bytes ready; decoded = refl; store = refl })
+
+  -- a line in form
+  module _ (e : a .formed ≡ true) where
+    formed : inForm line ≡ true
+    formed = sym (read .formed) ∙ e
+
+    request-is : a .request ≡ sentBy line .request
+    unfolding sentBy
+    request-is = read .request formed
+
+    sheet-is : replicate 64 (a .fill) ≡ sentBy line .sheet
+    unfolding sentBy
+    sheet-is = ap (λ (n : ℕ). replicate 64 n) (read .fill formed)
+
+    -- the public step is the inner one
+    inner : serve (stateOf (decode image) bytes (replicate 64 (a .fill))) (a .request) ≡ servedBy here line
+    unfolding enter
+    inner =
+        (λ i. serve (stateOf (decode image) bytes (sheet-is i)) (request-is i))
+        ∙ sym (step-is-serve (enter here (sentBy line)) (sentBy line .request) (invariant-of (decode image) (passes image bytes ready) .order)
+        (ready .store) (sentBy line .whole))
+
+    module _ (answer : Answer) (image′ bytes′ sheet′ : List ℕ)
+        (leaves : LeavesLent (serve (stateOf (decode image) bytes (replicate 64 (a .fill))) (a .request)) answer image′ bytes′ sheet′) where
+      served : LeavesLent (servedBy here line) answer image′ bytes′ sheet′
+      served = subst (λ (o : Outcome). LeavesLent o answer image′ bytes′ sheet′) inner leaves
+
+      pub served-text : (byte : ℕ) → byte ≡ cond (eqb (a .request .op) 5 && eqb (answer .result) 0) (getD sheet′ 0 0) 0
+          → answerTo number here line ≡ answerLine number answer byte
+      unfolding firstByte
+      served-text byte b =
+          let byte-is : byte ≡ firstByte (sentBy line .request) (servedBy here line) =
+          b ∙ (λ i. cond (eqb (request-is i .op) 5 && eqb (served .answer i .result) 0) (getD (served .sheet i) 0 0) 0) in
+          answer-served number here line formed ∙ λ i. answerLine number (sym (served .answer) i) (sym byte-is i)
+
+      pub served-holds : Holds (leftBy here line) image′ bytes′
+      served-holds =
+          rw (left-served here line formed) (record { tables = served .tables; decoded = served .decoded; store = served .store })

@@ -1,3 +1,0 @@
-pub mod LineReading
-pub mod AnswerLine
-pub mod Appending
