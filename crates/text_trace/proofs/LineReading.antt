@@ -9,9 +9,10 @@ use lib.ListN.{getD}
 use borrow.Author.Tests.{leb-true, eqb-true}
 use Rattle.lists.proofs.Tests.{Case, pass, fail, case, contradiction}
 use Rattle.machine.specs.declared.Request.{Request}
+use Rattle.machine.specs.Numbers.{requestWidth, requestOf}
 use Rattle.text.specs.Reading.{hasValues, valuesOf}
 use Rattle.text_trace.specs.declared.Asked.{Asked}
-use Rattle.trace_texts.specs.Line.{inputColumns, requestOf, fillOf, fillOk, inForm}
+use Rattle.trace_texts.specs.Line.{inputColumns, fillOf, fillOk, inForm}
 use Rattle.text_trace.specs.Contract.{Reads}
 
 abbrev pub asked : Bool → Request → ℕ → Asked
@@ -36,20 +37,20 @@ module _ (line : List ℕ) where
   pub no-values : (request : Request) (fill : ℕ) → hasValues inputColumns line ≡ false → Reads line (asked false request fill)
   no-values request fill e = another-form request fill (not-in-form e)
 
-  module _ (v : List ℕ) (values : v ≡ valuesOf line) (form : hasValues inputColumns line ≡ true) where
-    in-form : inForm line ≡ fillOk (getD v 2 0) (getD v 9 0)
+  module _ (v : List ℕ) (values : v ≡ valuesOf line) (form : hasValues inputColumns line ≡ true) (r : Request) (read : r ≡ requestOf v) where
+    in-form : inForm line ≡ fillOk (r .op) (getD v requestWidth 0)
     unfolding inForm
-    in-form = rw (form, values)
+    in-form = rw (form, read, values)
 
-    pub other-fill : (request : Request) (fill : ℕ) → fillOk (getD v 2 0) (getD v 9 0) ≡ false → Reads line (asked false request fill)
-    other-fill request fill e = another-form request fill (in-form ∙ e)
+    pub other-fill : (fill : ℕ) → fillOk (r .op) (getD v requestWidth 0) ≡ false → Reads line (asked false r fill)
+    other-fill fill e = another-form r fill (in-form ∙ e)
 
-    pub well-formed : fillOk (getD v 2 0) (getD v 9 0) ≡ true → Reads line (asked true (requestOf v) (getD v 9 0 % 256))
+    pub well-formed : fillOk (r .op) (getD v requestWidth 0) ≡ true → Reads line (asked true r (getD v requestWidth 0 % 256))
     well-formed e =
-        let small = fill-small (getD v 2 0) (getD v 9 0) e in
-        let whole : getD v 9 0 % 256 ≡ getD v 9 0 = omega arith in
+        let small = fill-small (r .op) (getD v requestWidth 0) e in
+        let whole : getD v requestWidth 0 % 256 ≡ getD v requestWidth 0 = omega arith in
         record {
           formed = sym (in-form ∙ e);
-          request = λ _. ap requestOf values;
+          request = λ _. read ∙ ap requestOf values;
           fill = λ _. whole ∙ ap fillOf values;
         }

@@ -8,27 +8,26 @@ use lib.Dec.{eqb}
 use lib.ListN.{length, getD, replicate}
 use Rattle.lists.proofs.Tests.{Case, pass, fail, case}
 use Rattle.machine.specs.declared.Answer.{Answer}
-use Rattle.machine.specs.State.{State, Outcome}
+use Rattle.machine.specs.State.{State, Outcome, stateOf}
 use Rattle.machine.specs.Step.{serve}
 use Rattle.machine.specs.Sequence.{enter}
 use Rattle.preservation.proofs.StepKeepsOrder.{PassesTests, invariant-of, step-is-serve, step-keeps-tests}
 use Rattle.image.specs.Image.{encode, decode, isImage}
 use Rattle.image.proofs.RoundTrip.{encode-decode, encode-is-image}
 use Rattle.image_find.proofs.Laws.{decoded-sized}
-use Rattle.op_outcome.specs.Outcomes.{stateOf}
 use Rattle.op_serve.specs.Contract.{LeavesLent}
 use Rattle.trace_texts.specs.Line.{inForm, sentBy, answerLine, firstByte, otherLine}
 use Rattle.trace_texts.specs.Trace.{servedBy, answerTo, leftBy}
 use Rattle.text_trace.specs.declared.Asked.{Asked}
-use Rattle.text_trace.specs.Contract.{Reads, dockOf, Ready, Holds}
+use Rattle.text_trace.specs.Contract.{Reads, dockOf, Servable, LeavesDock}
 use Rattle.text_trace.proofs.AnswersLaws.{answer-served, answer-other, left-served, left-other}
 
 -- ---- an image that stays as it is
-pub same-image : (image : List ℕ) → ((j : ℕ) → getD image j 0 < 256) → (bytes : List ℕ) → Ready image bytes → image ≡ encode (decode image)
+pub same-image : (image : List ℕ) → ((j : ℕ) → getD image j 0 < 256) → (bytes : List ℕ) → Servable image bytes → image ≡ encode (decode image)
 same-image image small bytes ready = sym (encode-decode image small (ready .is))
 
 -- ---- in order from line to line
-pub passes : (image bytes : List ℕ) → Ready image bytes → PassesTests (decode image)
+pub passes : (image bytes : List ℕ) → Servable image bytes → PassesTests (decode image)
 passes image bytes ready = record { sized = decoded-sized image; order = ready .order; noFar = ready .noFar }
 
 left-passes : (s : State) (line : List ℕ) → PassesTests (s .tables) → PassesTests (leftBy s line .tables)
@@ -39,8 +38,8 @@ left-passes s line p = go (case (inForm line))
     go (pass e) = rw (left-served s line e) (step-keeps-tests (enter s (sentBy line)) (sentBy line .request) p)
     go (fail e) = rw (left-other s line e) p
 
-pub still-ready : (image bytes line image′ bytes′ : List ℕ) → Ready image bytes → Holds (leftBy (dockOf image bytes) line) image′ bytes′
-    → length bytes′ ≡ 16384 → Ready image′ bytes′
+pub still-ready : (image bytes line image′ bytes′ : List ℕ) → Servable image bytes → LeavesDock (leftBy (dockOf image bytes) line) image′ bytes′
+    → length bytes′ ≡ 16384 → Servable image′ bytes′
 still-ready image bytes line image′ bytes′ ready h long =
     let left = leftBy (dockOf image bytes) line .tables in
     let p : PassesTests (decode image′) =
@@ -48,7 +47,7 @@ still-ready image bytes line image′ bytes′ ready h long =
     record { is = ap isImage (h .tables) ∙ encode-is-image left; order = p .order; noFar = p .noFar; store = long }
 
 -- ---- what the routine appends and leaves
-module _ (image bytes line : List ℕ) (number : ℕ) (ready : Ready image bytes) (a : Asked) (read : Reads line a) where
+module _ (image bytes line : List ℕ) (number : ℕ) (ready : Servable image bytes) (a : Asked) (read : Reads line a) where
   abbrev here : State
   here = dockOf image bytes
 
@@ -60,7 +59,7 @@ module _ (image bytes line : List ℕ) (number : ℕ) (ready : Ready image bytes
     pub other-text : answerTo number here line ≡ otherLine number
     other-text = answer-other number here line not-formed
 
-    pub other-holds : ((j : ℕ) → getD image j 0 < 256) → Holds (leftBy here line) image bytes
+    pub other-holds : ((j : ℕ) → getD image j 0 < 256) → LeavesDock (leftBy here line) image bytes
     other-holds small =
         rw (left-other here line not-formed) (record { tables = same-image image small bytes ready; decoded = refl; store = refl })
 
@@ -98,6 +97,6 @@ module _ (image bytes line : List ℕ) (number : ℕ) (ready : Ready image bytes
           b ∙ (λ i. cond (eqb (request-is i .op) 5 && eqb (served .answer i .result) 0) (getD (served .sheet i) 0 0) 0) in
           answer-served number here line formed ∙ λ i. answerLine number (sym (served .answer) i) (sym byte-is i)
 
-      pub served-holds : Holds (leftBy here line) image′ bytes′
+      pub served-holds : LeavesDock (leftBy here line) image′ bytes′
       served-holds =
           rw (left-served here line formed) (record { tables = served .tables; decoded = served .decoded; store = served .store })

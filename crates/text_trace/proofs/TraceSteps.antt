@@ -17,7 +17,7 @@ use Rattle.text.specs.Appending.{Appends, Countable}
 use Rattle.text.proofs.ReadingLaws.{upTo, lines-first, lines-none}
 use Rattle.text.proofs.Appending.{append-as, append-none, append-both}
 use Rattle.trace_texts.specs.Trace.{answerTo, leftBy, answers, afterLines}
-use Rattle.text_trace.specs.Contract.{dockOf, Ready, LinesFrom, Holds}
+use Rattle.text_trace.specs.Contract.{dockOf, Servable, LinesFrom, LeavesDock}
 use Rattle.text_trace.proofs.AnswersLaws.{answers-none, answers-more, after-none, after-more}
 use Rattle.text_trace.proofs.SameDock.{SameDock, same-trans, same-sym, same-of, same-answers, same-after}
 use Rattle.text_trace.proofs.LineServed.{same-image, still-ready}
@@ -32,7 +32,7 @@ endOf s input from = afterLines s (lines (drop from input))
 pub record Going (s₀ : State) (input : List ℕ) (start : ℕ) (before : List ℕ) (at : ℕ) (image bytes out : List ℕ) (from done total : ℕ) : Type 0 where
   pub inside : from ≤ length input + 1
   pub counted : done < from
-  pub ready : Ready image bytes
+  pub ready : Servable image bytes
   pub encoded : image ≡ encode (decode image)
   pub kept : length out ≡ length before
   pub bound : Countable total (restOf (dockOf image bytes) input from done)
@@ -40,7 +40,7 @@ pub record Going (s₀ : State) (input : List ℕ) (start : ℕ) (before : List 
       → Appends (restOf s₀ input start 0) before after at r
   pub left : SameDock (endOf (dockOf image bytes) input from) (endOf s₀ input start)
 
-pub begins : (image bytes input : List ℕ) (start : ℕ) (out : List ℕ) (at : ℕ) → ((j : ℕ) → getD image j 0 < 256) → Ready image bytes
+pub begins : (image bytes input : List ℕ) (start : ℕ) (out : List ℕ) (at : ℕ) → ((j : ℕ) → getD image j 0 < 256) → Servable image bytes
     → LinesFrom start input → Countable at (restOf (dockOf image bytes) input start 0)
     → Going (dockOf image bytes) input start out at image bytes out start 0 at
 begins image bytes input start out at small ready behind bound = record {
@@ -69,7 +69,7 @@ module _ (s₀ : State) (input : List ℕ) (start : ℕ) (before : List ℕ) (at
         let none : restOf here input from done ≡ [] = ap (answers (done + 1) here) no-lines ∙ answers-none (done + 1) here in
         g .rest out total (append-as [] (restOf here input from done) out out total total (sym none) (append-none out total))
 
-    pub end-holds : Holds (endOf s₀ input start) image bytes
+    pub end-holds : LeavesDock (endOf s₀ input start) image bytes
     end-holds =
         let same : SameDock here (endOf s₀ input start) =
         same-trans here (endOf here input from) (endOf s₀ input start) (same-of _ _ (sym (ap (afterLines here) no-lines ∙ after-none here))) (g .left) in
@@ -105,7 +105,7 @@ module _ (s₀ : State) (input : List ℕ) (start : ℕ) (before : List ℕ) (at
         omega (arith, g .bound, ap length answers-here ∙ length-append (answerTo (done + 1) here lineHere) later)
 
     pub next : (image′ bytes′ out′ : List ℕ) (total′ : ℕ) → Appends (answerTo (done + 1) here lineHere) out out′ total total′
-        → Holds (leftBy here lineHere) image′ bytes′ → length bytes′ ≡ length bytes
+        → LeavesDock (leftBy here lineHere) image′ bytes′ → length bytes′ ≡ length bytes
         → Going s₀ input start before at image′ bytes′ out′ (from + k + 1) (done + 1) total′
     next image′ bytes′ out′ total′ put h long =
         let text = answerTo (done + 1) here lineHere in

@@ -30,7 +30,7 @@ use Rattle.text.proofs.WritingLaws.{writes-fits}
 use Rattle.text.proofs.Appending.{append-as, append-both}
 use Rattle.trace_texts.specs.Line.{otherLine}
 use Rattle.trace_texts.specs.Trace.{longestInput, traceRoom, inputNames, outputNames, answers, inputOk, trace}
-use Rattle.text_trace.specs.Contract.{dockOf, Ready}
+use Rattle.text_trace.specs.Contract.{dockOf, Servable}
 use Rattle.text_trace.proofs.AnswerLine.{other-short}
 use Rattle.text_trace.proofs.AnswersLaws.{answers-fit, trace-short}
 
@@ -42,7 +42,7 @@ pub zeros-dock : dockOf (replicate imageSize 0) (replicate 16384 0) ≡ emptyDoc
 unfolding emptyDock
 zeros-dock i = record { tables = zeros-tables i; store = emptyStore; sheet = replicate 64 0 }
 
-pub zeros-ready : Ready (replicate imageSize 0) (replicate 16384 0)
+pub zeros-ready : Servable (replicate imageSize 0) (replicate 16384 0)
 zeros-ready =
     let p : PassesTests (decode (replicate imageSize 0)) = subst PassesTests (sym zeros-tables) (tests-of emptyTables empty-invariant) in
     record {

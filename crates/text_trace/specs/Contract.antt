@@ -6,11 +6,11 @@ use mathlib.Core.Bool.{true}
 use mathlib.Core.List.{List}
 use lib.ListN.{length, replicate}
 use Rattle.tables.specs.Order.{inOrder, noFarChild}
-use Rattle.machine.specs.State.{State}
+use Rattle.machine.specs.State.{State, stateOf}
+use Rattle.machine.specs.Numbers.{requestOf}
 use Rattle.image.specs.Image.{encode, decode, isImage}
-use Rattle.op_outcome.specs.Outcomes.{stateOf}
 use Rattle.text.specs.Reading.{valuesOf}
-use Rattle.trace_texts.specs.Line.{requestOf, fillOf, inForm}
+use Rattle.trace_texts.specs.Line.{fillOf, inForm}
 use Rattle.trace_texts.specs.Trace.{longestInput}
 use Rattle.text_trace.specs.declared.Asked.{Asked}
 
@@ -25,7 +25,7 @@ abbrev pub dockOf : List ℕ → List ℕ → State
 dockOf image store = stateOf (decode image) store (replicate 64 0)
 
 -- an image of tables that every request leaves in order, and a store of 256 sheets
-pub record Ready (image bytes : List ℕ) : Type 0 where
+pub record Servable (image bytes : List ℕ) : Type 0 where
   pub is : isImage image ≡ true
   pub order : inOrder (decode image) ≡ true
   pub noFar : noFarChild (decode image) ≡ true
@@ -38,7 +38,7 @@ pub record LinesFrom (start : ℕ) (input : List ℕ) : Type 0 where
   pub inside : start ≤ length input + 1
 
 -- the image and the store of a state
-pub record Holds (s : State) (image bytes : List ℕ) : Type 0 where
+pub record LeavesDock (s : State) (image bytes : List ℕ) : Type 0 where
   pub tables : image ≡ encode (s .tables)
   pub decoded : decode image ≡ s .tables
   pub store : bytes ≡ s .store

@@ -10,10 +10,13 @@ ghost use Rattle.text.specs.Writing.{Writes};
 ghost use Rattle.text.specs.Appending.{Appends, Countable};
 ghost use Rattle.trace_texts.specs.Line.{fillOk, answerLine, otherLine};
 ghost use Rattle.trace_texts.specs.Trace as spec;
-ghost use Rattle.text_trace.specs.Contract.{Reads, dockOf, Ready, LinesFrom, Holds};
+ghost use Rattle.text_trace.specs.Contract.{Reads, dockOf, Servable, LinesFrom, LeavesDock};
 use image::IMAGE;
 use machine::Answer;
 use machine::Request;
+use op_form::REQUEST;
+use op_sheets::SHEET;
+use op_sheets::STORE;
 
 // The longest input, in bytes.
 pub const LONGEST: usize = 65536;
@@ -21,16 +24,12 @@ pub const LONGEST: usize = 65536;
 // Bytes that every trace has room in: the names, and at most fifteen for each byte of the input.
 pub const ROOM: usize = 983074;
 
-const STORE: usize = 16384;
-
-const SHEET: usize = 64;
-
 const LINE_END: u8 = 10;
 
 // ---- a line of the input
 
-// The request's nine numbers and the fill.
-const COLUMNS: usize = 10;
+// The request's numbers and the fill.
+const COLUMNS: usize = REQUEST + 1;
 
 // What a line asks for.
 pub struct Asked {
@@ -53,19 +52,8 @@ fn read_line(line: &[u8]) -> Asked
 {
     let mut v = [0u16; COLUMNS];
     let formed = text::read_values(line, &mut v);
-    let op = v[2];
-    let fill = v[9];
-    let r = Request {
-        pad: v[0],
-        program: v[1],
-        op: op,
-        ticket: v[3],
-        topad: v[4],
-        toprogram: v[5],
-        first: v[6],
-        count: v[7],
-        rights: v[8],
-    };
+    let r = op_form::request_in(&v);
+    let fill = v[REQUEST];
     if !formed {
         return Asked {
             formed: false,
@@ -73,7 +61,7 @@ fn read_line(line: &[u8]) -> Asked
             fill: 0,
         };
     }
-    if !fill_ok(op, fill) {
+    if !fill_ok(r.op, fill) {
         return Asked {
             formed: false,
             request: r,
@@ -140,9 +128,9 @@ fn serve_line(
     out: &mut [u8],
     at: usize,
 ) -> usize
-    requires { ⌜ Ready (now tables) (now store) × Countable at (spec.answerTo number (dockOf (now tables) (now store)) (now line)) ⌝ }
+    requires { ⌜ Servable (now tables) (now store) × Countable at (spec.answerTo number (dockOf (now tables) (now store)) (now line)) ⌝ }
     ensures { λ r. ⌜ Appends (spec.answerTo number (dockOf (now (tables .entry)) (now (store .entry))) (now (line .entry))) (now (out .entry)) (now (out .exit)) at r ⌝ }
-    ensures { λ _. ⌜ Holds (spec.leftBy (dockOf (now (tables .entry)) (now (store .entry))) (now (line .entry))) (now (tables .exit)) (now (store .exit)) ⌝ }
+    ensures { λ _. ⌜ LeavesDock (spec.leftBy (dockOf (now (tables .entry)) (now (store .entry))) (now (line .entry))) (now (tables .exit)) (now (store .exit)) ⌝ }
 {
     let a = read_line(line);
     if !a.formed {
@@ -165,9 +153,9 @@ pub fn serve_lines(
     out: &mut [u8],
     at: usize,
 ) -> usize
-    requires { ⌜ Ready (now tables) (now store) × (LinesFrom start (now input) × Countable at (spec.answers 1 (dockOf (now tables) (now store)) (lines (drop start (now input))))) ⌝ }
+    requires { ⌜ Servable (now tables) (now store) × (LinesFrom start (now input) × Countable at (spec.answers 1 (dockOf (now tables) (now store)) (lines (drop start (now input))))) ⌝ }
     ensures { λ r. ⌜ Appends (spec.answers 1 (dockOf (now (tables .entry)) (now (store .entry))) (lines (drop start (now (input .entry))))) (now (out .entry)) (now (out .exit)) at r ⌝ }
-    ensures { λ _. ⌜ Holds (spec.afterLines (dockOf (now (tables .entry)) (now (store .entry))) (lines (drop start (now (input .entry))))) (now (tables .exit)) (now (store .exit)) ⌝ }
+    ensures { λ _. ⌜ LeavesDock (spec.afterLines (dockOf (now (tables .entry)) (now (store .entry))) (lines (drop start (now (input .entry))))) (now (tables .exit)) (now (store .exit)) ⌝ }
 {
     let mut from = start;
     let mut done: u16 = 0;

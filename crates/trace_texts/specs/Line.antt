@@ -1,34 +1,22 @@
 -- A line of the trace: what it asks for, and how it is answered.
-use Prim.Native.Nat.{ℕ}
+use Prim.Native.Nat.{ℕ, _+_}
 use mathlib.Core.Bool.{Bool, _&&_, cond}
 use mathlib.Core.List.{List, [], _∷_}
 use lib.Dec.{leb, eqb}
 use lib.ListN.{getD, replicate, length-replicate}
 use Rattle.machine.specs.declared.{Request.Request, Answer.Answer}
 use Rattle.machine.specs.State.{Outcome, answerOf}
+use Rattle.machine.specs.Numbers.{requestWidth, requestOf}
 use Rattle.machine.specs.Sequence.{Sent}
 use Rattle.text.specs.Reading.{hasValues, valuesOf}
 use Rattle.text.specs.Writing.{valuesLine}
 
--- ---- a line of the input: the request's nine numbers and the fill, in the order of the names
+-- ---- a line of the input: the request's numbers and the fill, in the order of the names
 abbrev pub inputColumns : ℕ
-inputColumns = 10
-
-abbrev pub requestOf : List ℕ → Request
-requestOf values = record {
-  pad = getD values 0 0;
-  program = getD values 1 0;
-  op = getD values 2 0;
-  ticket = getD values 3 0;
-  topad = getD values 4 0;
-  toprogram = getD values 5 0;
-  first = getD values 6 0;
-  count = getD values 7 0;
-  rights = getD values 8 0;
-}
+inputColumns = requestWidth + 1
 
 abbrev pub fillOf : List ℕ → ℕ
-fillOf values = getD values 9 0
+fillOf values = getD values requestWidth 0
 
 -- "Fill is 0 to 255: a write's 64 bytes; 0 for other ops; any other fill is another form."
 unfoldable pub fillOk : ℕ → ℕ → Bool
