@@ -1,6 +1,5 @@
 // A batch of requests over lent buffers. The image is tested for order once; the requests are then served one after the other, on the
 // image where it lies. `serve` asks nothing of its caller.
-ghost use Prim.Native.Nat.{_≤_};
 ghost use mathlib.Core.Path.{_≡_};
 ghost use mathlib.Core.Bool.{true};
 ghost use lib.ListN.{length};

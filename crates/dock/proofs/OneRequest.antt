@@ -16,7 +16,7 @@ use Rattle.machine.specs.Step.{serve}
 use Rattle.image.specs.Layout.{imageSize}
 use Rattle.image.specs.Image.{decode}
 use Rattle.op_serve.specs.Contract.{LeavesLent}
-use Rattle.lending.specs.Batch.{Buffers, Left, tablesOk, untouched}
+use Rattle.lending.specs.Batch.{Buffers, untouched}
 use Rattle.lending.specs.Host.{stepRefusal, stepOutcome, leftBy, stepImage, Steps, lentRefusal}
 use Rattle.lending.proofs.Refusals.{tables-order, not-refused}
 use Rattle.lending.proofs.Served.{is-served}

@@ -146,12 +146,6 @@ module _ {A : Type 0} (w : ℕ) (part : ℕ → List A) (before : List A) where
         let none : drop (w * i) before ≡ [] = ap (λ (m : ℕ). drop m before) (ap (λ (m : ℕ). w * m) e ∙ sym long) ∙ drop-length before in
         so .same ∙ ap (λ (l : List A). joined i part ++ l) none ∙ append-nil (joined i part) ∙ ap (λ (m : ℕ). joined m part) e
 
--- the rest of a list, from a on, was lent and came back as the tail
-pub tail-put : {A : Type 0} (now front tail : List A) (a k : ℕ) → take a now ≡ front → length now ≡ a + k → putMid a k now tail ≡ front ++ tail
-tail-put now front tail a k e long =
-    let none : drop k (drop a now) ≡ [] = drop-drop k a now ∙ ap (λ (m : ℕ). drop m now) (sym long) ∙ drop-length now in
-    (λ i. e i ++ (tail ++ none i)) ∙ ap (λ (l : List _). front ++ l) (append-nil tail)
-
 -- ---- what a list begins with
 module _ {A : Type 0} where
   pub begins-all : (l : List A) → Begins l l

@@ -1,4 +1,3 @@
 mod Numbered
 mod Rules
 mod Far
-pub mod Written

@@ -1,6 +1,6 @@
 -- One request over lent bytes, refused with 13 or 14, or served.
 use Prim.Native.Nat.{ℕ}
-use mathlib.Core.Path.{_≡_, sym, ap, subst, _∙_}
+use mathlib.Core.Path.{_≡_, subst, _∙_}
 use mathlib.Core.List.{List}
 use lib.ListN.{length}
 use Rattle.machine.specs.declared.{Request.Request, Answer.Answer}

@@ -1,7 +1,6 @@
 // The public routines over the tables' image, where it lies: emptying the dock, the order test, the dock's own check, and the step that
 // serves one request. None asks anything of its caller.
 ghost use mathlib.Core.Path.{_≡_};
-ghost use lib.ListN.{length};
 ghost use Rattle.lending.specs.Host.{emptyImage, EmptiesImage, orderOf, checkImage, lentRefusal, stepLent, StepsLent};
 use image::IMAGE;
 use machine::Answer;

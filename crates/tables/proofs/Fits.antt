@@ -1,6 +1,5 @@
--- What owning a value of the tables' types tells: the arrays' lengths, and that each number fits 16 bits, at every depth. A parameter t:
--- `tables-fit (c .good .0)`; the result of a call f: `tables-fit (c .f .ok)`. In particular the tables of the code are `Sized`, which is
--- what the theorems about them ask for.
+-- What owning a value of the tables' types tells: the arrays' lengths, and that each number fits 16 bits, at every depth. A parameter p:
+-- `program-fits (c .good .0)`; the result of a call f: `program-fits (c .f .ok)`.
 use Prim.Native.Nat.{ℕ, zero, suc, _<_}
 use native.Mathlib.Omega.{arith}
 use mathlib.Core.Path.{_≡_, sym, _∙_}
@@ -12,15 +11,11 @@ use denote.Shadow.{shadow}
 use denote.Struct.Field.{Field, array-field}
 use Rattle.rights.specs.declared.Rights.{Rights}
 use Rattle.rights.proofs.Rights as rights
-use Rattle.tables.specs.declared.{Name.Name, Ticket.Ticket, Program.Program, Pad.Pad, Entry.Entry, Tables.Tables}
-use Rattle.tables.specs.Names.{noProgram, noPad}
-use Rattle.tables.specs.Lookup.{Sized}
+use Rattle.tables.specs.declared.{Name.Name, Ticket.Ticket, Program.Program, Entry.Entry}
 use Rattle.tables.proofs.Name as name
 use Rattle.tables.proofs.Ticket as ticket
 use Rattle.tables.proofs.Program as program
-use Rattle.tables.proofs.Pad as pad
 use Rattle.tables.proofs.Entry as entry
-use Rattle.tables.proofs.Tables as tables
 
 -- ---- any field
 -- x is owned, at some machine values
@@ -90,18 +85,6 @@ program-fits x o =
       last = f .1 .0 .1;
     }
 
-pub record PadFits (x : Pad) : Type 0 where
-  pub long : length (x .programs) ≡ 8
-  pub program : (i : ℕ) (d : Program) → i < 8 → ProgramFits (getD (x .programs) i d)
-
-pub pad-fits : (x : Pad) → Owned pad.the-field x → PadFits x
-pad-fits x o =
-    let f = o .1 .1 .1 in
-    record {
-      long = array-long program.the-field 8 (x .programs) (_, f .0);
-      program = λ i d h. program-fits _ (array-at program.the-field 8 (x .programs) (_, f .0) i d h);
-    }
-
 pub record EntryFits (x : Entry) : Type 0 where
   pub name : NameFits (x .name)
   pub parent : NameFits (x .parent)
@@ -119,27 +102,3 @@ entry-fits x o =
       count = f .1 .1 .1 .0 .1;
       rights = rights-fits (x .rights) (_, f .1 .1 .1 .1 .0);
     }
-
-pub record TablesFit (x : Tables) : Type 0 where
-  pub pads-long : length (x .pads) ≡ 4
-  pub pad : (i : ℕ) (d : Pad) → i < 4 → PadFits (getD (x .pads) i d)
-  pub entries-long : length (x .entries) ≡ 256
-  pub entry : (i : ℕ) (d : Entry) → i < 256 → EntryFits (getD (x .entries) i d)
-
-pub tables-fit : (x : Tables) → Owned tables.the-field x → TablesFit x
-tables-fit x o =
-    let f = o .1 .1 .1 in
-    record {
-      pads-long = array-long pad.the-field 4 (x .pads) (_, f .0);
-      pad = λ i d h. pad-fits _ (array-at pad.the-field 4 (x .pads) (_, f .0) i d h);
-      entries-long = array-long entry.the-field 256 (x .entries) (_, f .1 .0);
-      entry = λ i d h. entry-fits _ (array-at entry.the-field 256 (x .entries) (_, f .1 .0) i d h);
-    }
-
-pub tables-sized : (x : Tables) → TablesFit x → Sized x
-tables-sized x fit = record {
-  pads = fit .pads-long;
-  programs = λ p b. fit .pad p noPad b .long;
-  tickets = λ p q b c. fit .pad p noPad b .program q noProgram c .long;
-  entries = fit .entries-long;
-}

@@ -1,7 +1,6 @@
 -- 13 and 14 leave everything as it is; past them the step is serving.
 use mathlib.Core.Path.{sym, _∙_}
 use borrow.Author.Needs.{needs}
-use Rattle.image.specs.Image.{decode}
 use Rattle.lending.proofs.Refusals.{tables-image, tables-order, not-refused}
 use Rattle.step.proofs.Stepping.{as-refused, as-served}
 use Rattle.step.proofs.step.Statement.{statement}
