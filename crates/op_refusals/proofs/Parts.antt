@@ -21,18 +21,18 @@ use Rattle.op_refusals.specs.Found.{Found, isLost}
 use Rattle.op_refusals.specs.Parts.{_orElse_, passTicketRefusal, passRoomRefusal, accessTicketRefusal}
 
 -- ---- two refusals, one after the other
-pub first-refuses : (a b : ℕ) → (a ≡ 0 → ⊥) → a ≡ (a orElse b)
+pub first-refuses : {x a : ℕ} (b : ℕ) → x ≡ a → (x ≡ 0 → ⊥) → x ≡ (a orElse b)
 unfolding _orElse_
-first-refuses a b ne = rw (ne-eqb a 0 ne)
+first-refuses {x} {a} b e ne = e ∙ rw (ne-eqb a 0 (λ z. ne (e ∙ z)))
 
-pub second-decides : (a b : ℕ) → a ≡ 0 → b ≡ (a orElse b)
+pub second-decides : {x a y b : ℕ} → x ≡ a → x ≡ 0 → y ≡ b → y ≡ (a orElse b)
 unfolding _orElse_
-second-decides a b e = rw e
+second-decides e z q = q ∙ rw (sym e ∙ z)
 
 -- a chain's first link belongs to the first part
 link : (n : ℕ) (b : Bool) (x y : ℕ) {z : ℕ} → (n ≡ 0 → ⊥) → z ≡ (x orElse y) → (n when b else z) ≡ ((n when b else x) orElse y)
 unfolding _when_else_
-link n true x y ne e = first-refuses n y ne
+link n true x y ne e = first-refuses y refl ne
 link n false x y ne e = e
 
 -- ---- pass
@@ -54,7 +54,7 @@ module _ (t : Tables) (r : Request) (k : Ticket) (p q : Seat) (lost : Bool) (f :
       (link 5 _ _ _ (λ z. omega (arith, z))
       (link 8 _ _ _ (λ z. omega (arith, z))
       (link 6 _ _ _ (λ z. omega (arith, z))
-      (link 7 _ _ _ (λ z. omega (arith, z)) (room ∙ second-decides 0 _ refl))))))
+      (link 7 _ _ _ (λ z. omega (arith, z)) (second-decides {x = 0} {a = 0} refl refl room))))))
 
 -- a pass that has room has numbers left
 pub record NumbersLeft (p q : Seat) : Type 0 where
@@ -79,4 +79,4 @@ module _ (right : ℕ) (t : Tables) (r : Request) (k : Ticket) (e : asked t r �
   access-in-parts = rw e
       (link 4 _ _ _ (λ z. omega (arith, z))
       (link 5 _ _ _ (λ z. omega (arith, z))
-      (link 6 _ _ _ (λ z. omega (arith, z)) (link 7 _ _ _ (λ z. omega (arith, z)) (second-decides 0 _ refl)))))
+      (link 6 _ _ _ (λ z. omega (arith, z)) (link 7 _ _ _ (λ z. omega (arith, z)) (second-decides {x = 0} {a = 0} refl refl refl)))))
