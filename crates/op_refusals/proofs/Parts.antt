@@ -21,11 +21,11 @@ use Rattle.op_refusals.specs.Found.{Found, isLost}
 use Rattle.op_refusals.specs.Parts.{_orElse_, passTicketRefusal, passRoomRefusal, accessTicketRefusal}
 
 -- ---- two refusals, one after the other
-pub first-refuses : {x a : ℕ} (b : ℕ) → x ≡ a → (x ≡ 0 → ⊥) → x ≡ (a orElse b)
+first-refuses : {x a : ℕ} (b : ℕ) → x ≡ a → (x ≡ 0 → ⊥) → x ≡ (a orElse b)
 unfolding _orElse_
 first-refuses {x} {a} b e ne = e ∙ rw (ne-eqb a 0 (λ z. ne (e ∙ z)))
 
-pub second-decides : {x a y b : ℕ} → x ≡ a → x ≡ 0 → y ≡ b → y ≡ (a orElse b)
+second-decides : {x a y b : ℕ} → x ≡ a → x ≡ 0 → y ≡ b → y ≡ (a orElse b)
 unfolding _orElse_
 second-decides e z q = q ∙ rw (sym e ∙ z)
 
@@ -36,25 +36,37 @@ link n true x y ne e = first-refuses y refl ne
 link n false x y ne e = e
 
 -- ---- pass
-module _ (t : Tables) (r : Request) (k : Ticket) (p q : Seat) (lost : Bool) (f : Found t r k p q lost) where
-  room : (9 when not (hasPlace t (r .pad) (r .program)) || not (hasPlace t (r .topad) (r .toprogram)) else
-      10 when isSpent t (r .pad) (r .program) || isSpent t (r .topad) (r .toprogram) else
-      12 when isLost t r k else 0) ≡ passRoomRefusal p q lost
-  unfolding isSpent passRoomRefusal
-  room = sym (λ i.
-      9 when f .asker .full i || f .recipient .full i else
-      10 when leb 65535 (f .asker .last i) || leb 65535 (f .recipient .last i) else
-      12 when f .entry i else
-      0)
+abbrev room : Tables → Request → Ticket → ℕ
+room t r k =
+    9 when not (hasPlace t (r .pad) (r .program)) || not (hasPlace t (r .topad) (r .toprogram)) else
+    10 when isSpent t (r .pad) (r .program) || isSpent t (r .topad) (r .toprogram) else
+    12 when isLost t r k else
+    0
 
-  pub pass-in-parts : passRefusal t r ≡ (passTicketRefusal k r orElse passRoomRefusal p q lost)
+module _ (t : Tables) (r : Request) (k : Ticket) (e : asked t r ≡ k) {first : ℕ} (said : first ≡ passTicketRefusal k r) where
+  pass-in-parts : passRefusal t r ≡ (passTicketRefusal k r orElse room t r k)
   unfolding passRefusal passTicketRefusal
-  pass-in-parts = rw (f .ticket)
+  pass-in-parts =
+      rw e
       (link 4 _ _ _ (λ z. omega (arith, z))
       (link 5 _ _ _ (λ z. omega (arith, z))
       (link 8 _ _ _ (λ z. omega (arith, z))
-      (link 6 _ _ _ (λ z. omega (arith, z))
-      (link 7 _ _ _ (λ z. omega (arith, z)) (second-decides {x = 0} {a = 0} refl refl room))))))
+      (link 6 _ _ _ (λ z. omega (arith, z)) (link 7 _ _ _ (λ z. omega (arith, z)) (second-decides {x = 0} {a = 0} refl refl refl))))))
+
+  pub ticket-refuses : (first ≡ 0 → ⊥) → first ≡ passRefusal t r
+  ticket-refuses ne = first-refuses (room t r k) said ne ∙ sym pass-in-parts
+
+  pub room-decides : first ≡ 0 → {p q : Seat} {lost : Bool} → Found t r k p q lost → {second : ℕ} → second ≡ passRoomRefusal p q lost
+      → second ≡ passRefusal t r
+  unfolding isSpent passRoomRefusal
+  room-decides z {p} {q} {lost} f h =
+      let found : passRoomRefusal p q lost ≡ room t r k
+      = λ i.
+          9 when f .asker .full i || f .recipient .full i else
+          10 when leb 65535 (f .asker .last i) || leb 65535 (f .recipient .last i) else
+          12 when f .entry i else
+          0 in
+      second-decides said z (h ∙ found) ∙ sym pass-in-parts
 
 -- a pass that has room has numbers left
 pub record NumbersLeft (p q : Seat) : Type 0 where
@@ -72,11 +84,18 @@ numbers-left p q lost e =
     }
 
 -- ---- read and write
-module _ (right : ℕ) (t : Tables) (r : Request) (k : Ticket) (e : asked t r ≡ k) where
-  pub access-in-parts : accessRefusal right t r
+module _ (right : ℕ) (t : Tables) (r : Request) (k : Ticket) (e : asked t r ≡ k) {first : ℕ} (said : first ≡ accessTicketRefusal (rightsOf right) k (r .first)) where
+  access-in-parts : accessRefusal right t r
       ≡ (accessTicketRefusal (rightsOf right) k (r .first) orElse dockRefusal t (k .dock) (k .first + r .first) right)
   unfolding accessRefusal accessTicketRefusal
-  access-in-parts = rw e
+  access-in-parts =
+      rw e
       (link 4 _ _ _ (λ z. omega (arith, z))
       (link 5 _ _ _ (λ z. omega (arith, z))
       (link 6 _ _ _ (λ z. omega (arith, z)) (link 7 _ _ _ (λ z. omega (arith, z)) (second-decides {x = 0} {a = 0} refl refl refl)))))
+
+  pub pad-refuses : (first ≡ 0 → ⊥) → first ≡ accessRefusal right t r
+  pad-refuses ne = first-refuses _ said ne ∙ sym access-in-parts
+
+  pub dock-decides : first ≡ 0 → {second : ℕ} → second ≡ dockRefusal t (k .dock) (k .first + r .first) right → second ≡ accessRefusal right t r
+  dock-decides z h = second-decides said z h ∙ sym access-in-parts

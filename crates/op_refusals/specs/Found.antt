@@ -1,4 +1,4 @@
--- What a take or a pass looks up of a program, and a pass before it decides.
+-- What take and pass look up of a program, and a pass past its ticket.
 use Prim.Native.Nat.{ℕ}
 use mathlib.Core.Path.{_≡_}
 use mathlib.Core.Bool.{Bool, not, _&&_}
@@ -7,7 +7,6 @@ use Rattle.tables.specs.declared.{Ticket.Ticket, Tables.Tables}
 use Rattle.tables.specs.Lookup.{lastOf, entryOf}
 use Rattle.tables.specs.Change.{hasPlace}
 use Rattle.machine.specs.declared.Request.{Request}
-use Rattle.machine.specs.State.{asked}
 use Rattle.op_refusals.specs.declared.Seat.{Seat}
 
 -- a program's seat
@@ -19,9 +18,8 @@ pub record SeatOf (t : Tables) (pad program : ℕ) (s : Seat) : Type 0 where
 abbrev pub isLost : Tables → Request → Ticket → Bool
 isLost t r k = not (eqb (r .pad) (r .topad)) && not (entryOf t (k .dock) .live)
 
--- the ticket asked for, the seats of asker and recipient, and whether the ticket's entry is lost
+-- for a pass of the ticket k: the seats of asker and recipient, and whether the ticket's entry is lost
 pub record Found (t : Tables) (r : Request) (k : Ticket) (p q : Seat) (lost : Bool) : Type 0 where
-  pub ticket : asked t r ≡ k
   pub asker : SeatOf t (r .pad) (r .program) p
   pub recipient : SeatOf t (r .topad) (r .toprogram) q
   pub entry : lost ≡ isLost t r k

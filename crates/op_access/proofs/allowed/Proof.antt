@@ -1,7 +1,7 @@
-use mathlib.Core.Path.{sym, _∙_}
+use mathlib.Core.Path.{sym}
 use borrow.Author.Needs.{needs}
 use Rattle.image.specs.Image.{decode}
-use Rattle.op_refusals.proofs.Parts.{first-refuses, second-decides, access-in-parts}
+use Rattle.op_refusals.proofs.Parts.{pad-refuses, dock-decides}
 use Rattle.op_access.proofs.allowed.Statement.{statement}
 use Rattle.op_access.proofs.allowed.Tie as tie
 
@@ -14,10 +14,11 @@ access-ticket-requires c κs = search needs
 returns : tie.Need-returns
 returns c =
     let s = c .before .before .before .before in
-    let t = decode (s .args .image .now) in
     let found = c .before .before .asked .ensures in
-    let parts = sym (access-in-parts (s .args .right .bits) t (s .args .r) _ found) in
-    record { result = first-refuses _ (c .before .access-ticket .ensures) (c .if1 .taken) ∙ parts; ticket = found }
+    record {
+    result = pad-refuses (s .args .right .bits) (decode (s .args .image .now)) (s .args .r) _ found (c .before .access-ticket .ensures) (c .if1 .taken);
+    ticket = found;
+    }
 
 entry-requires : tie.Need-entry-requires
 entry-requires c κs = search needs
@@ -39,9 +40,11 @@ returns-2 c =
     let s = c .before .before .before .before .before .before .before .before .before in
     let t = decode (s .args .image .now) in
     let found = c .before .before .before .before .before .before .before .asked .ensures in
-    let parts = sym (access-in-parts (s .args .right .bits) t (s .args .r) _ found) in
     let dock = c .check .ensures t _ (sym (c .before .before .before .entry .ensures)) in
-    record { result = second-decides (c .before .before .before .before .before .before .access-ticket .ensures) (c .before .before .before .before .before .if1 .left) dock ∙ parts; ticket = found }
+    record {
+    result = dock-decides (s .args .right .bits) t (s .args .r) _ found (c .before .before .before .before .before .before .access-ticket .ensures) (c .before .before .before .before .before .if1 .left) dock;
+    ticket = found;
+    }
 
 pub allowed-spec : {M : Type 1} → statement M
 allowed-spec =
