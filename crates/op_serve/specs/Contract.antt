@@ -1,12 +1,11 @@
--- What a served request leaves, field by field, as the machine's outcome: of lent tables, as their image, and of tables by value; and what
--- the lent buffers must be.
+-- What the lent buffers must be, and what a served request leaves in them, field by field, as the machine's outcome.
 use Prim.Native.Nat.{ℕ}
 use mathlib.Core.Path.{_≡_}
 use mathlib.Core.Bool.{true}
 use mathlib.Core.List.{List}
 use lib.ListN.{length}
 use Rattle.tables.specs.Order.{inOrder}
-use Rattle.machine.specs.declared.{Answer.Answer, Served.Served}
+use Rattle.machine.specs.declared.Answer.{Answer}
 use Rattle.machine.specs.State.{Outcome}
 use Rattle.image.specs.Image.{encode, decode, isImage}
 
@@ -15,7 +14,7 @@ pub record Lengths (bytes buffer : List ℕ) : Type 0 where
   pub sheet : length buffer ≡ 64
 
 -- an image in order, and buffers of the lengths that they must have
-pub record InOrder (image store sheet : List ℕ) : Type 0 where
+pub record ReadyToServe (image store sheet : List ℕ) : Type 0 where
   pub is : isImage image ≡ true
   pub order : inOrder (decode image) ≡ true
   pub lengths : Lengths store sheet
@@ -27,10 +26,3 @@ pub record LeavesLent (o : Outcome) (a : Answer) (tables′ store′ sheet′ : 
   pub decoded : decode tables′ ≡ o .state .tables
   pub store : store′ ≡ o .state .store
   pub sheet : sheet′ ≡ o .state .sheet
-
--- the answer, and the tables, store and sheet buffer that are left
-pub record HandsBack (o : Outcome) (d : Served) (bytes buffer : List ℕ) : Type 0 where
-  pub answer : d .answer ≡ o .answer
-  pub tables : d .tables ≡ o .state .tables
-  pub store : bytes ≡ o .state .store
-  pub sheet : buffer ≡ o .state .sheet

@@ -1,3 +1,4 @@
+use native.Mathlib.Omega.{arith}
 use mathlib.Core.Path.{sym, ap, _∙_}
 use borrow.Author.Needs.{needs}
 use Rattle.tables.specs.declared.Ticket.{Ticket}
@@ -38,7 +39,8 @@ clear-sheets-requires : tie.Need-clear-sheets-requires
 clear-sheets-requires c κs =
     let s = c .before .before .before .before .before .before .before .before .before .before .before in
     let d = c .before .before .before .before .before .before .before .allowed .ensures in
-    (s .pre .1 .0, span-of-asked (decode (s .args .image .now)) (s .args .r) (sym (d .result) ∙ c .before .before .before .before .before .if1 .left) (s .pre .1 .1 .0) (d .ticket))
+    let span = span-of-asked (decode (s .args .image .now)) (s .args .r) (sym (d .result) ∙ c .before .before .before .before .before .if1 .left) (s .pre .1 .1 .0) (d .ticket) in
+    (s .pre .1 .0, omega (arith, span))
 
 drop-head-requires : tie.Need-drop-head-requires
 drop-head-requires c κs =
