@@ -1,2 +1,3 @@
-pub mod Refusals
+pub mod Chains
+mod Tests
 pub mod Laws

@@ -1,15 +1,16 @@
 -- What is served where the request passed 1, 2 and 3: from the operation's own refusal, the outcome.
-use Prim.Native.Nat.{ℕ, _+_, _*_, _/_, _%_, _<_}
-use native.Mathlib.Omega.{arith}
+use Prim.Native.Nat.{ℕ}
 use mathlib.Core.Path.{_≡_, refl, sym, ap, subst, _∙_}
-use mathlib.Core.Bool.{Bool, true}
+use mathlib.Core.Bool.{Bool, true, cond}
 use mathlib.Core.List.{List}
-use borrow.Author.Tests.{ne-eqb}
+use lib.Dec.{eqb}
+use borrow.Author.Tests.{ne-eqb, eqb-true, eqb-false}
+use Rattle.lists.proofs.Tests.{Case, pass, fail, case}
 use Rattle.tables.specs.declared.{Name.Name, Ticket.Ticket, Tables.Tables}
-use Rattle.tables.specs.Kinds.{isGrant}
-use Rattle.tables.specs.Lookup.{ticketsOf, lookup}
+use Rattle.tables.specs.Kinds.{isGrant, isHead}
+use Rattle.tables.specs.Lookup.{lookup}
 use Rattle.tables.specs.Chains.{atOrUnder}
-use Rattle.tables.specs.Change.{give, dropTickets}
+use Rattle.tables.specs.Change.{dropTickets}
 use Rattle.machine.specs.declared.{Request.Request, Answer.Answer}
 use Rattle.machine.specs.State.{State, Outcome, refused, withTables, askedName, asked}
 use Rattle.machine.specs.Operation.{Operation, operationOf}
@@ -21,6 +22,8 @@ use Rattle.op_drop_tickets.specs.Docked.{Heads}
 use Rattle.op_form.specs.Early.{earlyRefusal}
 use Rattle.op_form.proofs.Laws.{serve-past}
 use Rattle.op_outcome.specs.Outcomes.{stateOf, outcomeOf, plainly, Serves}
+use Rattle.op_outcome.specs.Ready.{Ready}
+use Rattle.op_outcome.specs.Refusing.{MayRefuse, Refuses, afterRefusal}
 
 module _ (t : Tables) (store sheet : List ℕ) (r : Request) (z : earlyRefusal r ≡ 0) (op : Operation) (o : operationOf (r .op) ≡ op) where
   abbrev before : State
@@ -33,7 +36,7 @@ module _ (t : Tables) (store sheet : List ℕ) (r : Request) (z : earlyRefusal r
   unfolding outcome
   served-done e = sym (by-own ∙ rw (e, o))
 
-  pub served-lost : ownRefusal op t r ≡ 12 → outcomeOf (plainly 12) (dropHead t r) store sheet ≡ serve before r
+  served-lost : ownRefusal op t r ≡ 12 → outcomeOf (plainly 12) (dropHead t r) store sheet ≡ serve before r
   unfolding outcome refused withTables
   served-lost e = sym (by-own ∙ rw e)
 
@@ -51,32 +54,42 @@ module _ {o : Outcome} {a : Answer} {image store sheet : List ℕ} where
   pub stays : isImage image ≡ true → {n : ℕ} → a ≡ plainly n → outcomeOf (plainly n) (decode image) store sheet ≡ o → Serves o a image store sheet
   stays is e q = leaves (record { is = is; tables = refl }) e q
 
--- ---- the ticket asked for
-pub asked-found : (t : Tables) (r : Request) (n : Name) (k : Ticket) → n ≡ askedName r → k ≡ lookup t n → asked t r ≡ k
-asked-found t r n k e f = sym (f ∙ ap (lookup t) e)
-
 -- ---- 12: the head of a grant's chain is its dock name
-pub lost : (t : Tables) (r : Request) (k : Ticket) → asked t r ≡ k → Heads t → isGrant (asked t r .kind) ≡ true
+lost : (t : Tables) (r : Request) (k : Ticket) → asked t r ≡ k → Heads t → isGrant (asked t r .kind) ≡ true
     → dropTickets (atOrUnder t (k .dock)) t ≡ dropHead t r
 unfolding dropHead
 lost t r k e heads g =
     ap (λ (h : Name). dropTickets (atOrUnder t h) t) (ap (λ (x : Ticket). x .dock) (sym e) ∙ sym (heads .head (askedName r) g))
 
+-- ---- what a refusal of a request for a ticket leaves
+module _ (t : Tables) (r : Request) (asks : earlyRefusal r ≡ 0) (n : ℕ) (ne : n ≡ 0 → ⊥)
+    (k : Ticket) (found : asked t r ≡ k) (ready : Ready t) (grant : n ≡ 12 → isGrant (asked t r .kind) ≡ true) where
+  pub may-refuse : MayRefuse t n k
+  may-refuse = record {
+    ready = ready;
+    head = λ e. subst (λ (x : Ticket). isHead (lookup t (x .dock) .kind) ≡ true) found (ready .heads .kind (askedName r) (grant e));
+  }
+
+  refused-served : (store sheet : List ℕ) (op : Operation) → operationOf (r .op) ≡ op → ownRefusal op t r ≡ n
+      → outcomeOf (plainly n) (afterRefusal t n k) store sheet ≡ serve (stateOf t store sheet) r
+  unfolding afterRefusal
+  refused-served store sheet op o own = go (case (eqb n 12))
+    where
+      go : Case (eqb n 12) → outcomeOf (plainly n) (afterRefusal t n k) store sheet ≡ serve (stateOf t store sheet) r
+      go (pass e) =
+          let twelve : n ≡ 12 = eqb-true n 12 e in
+          (λ i. outcomeOf (plainly (twelve i)) (cond (e i) (dropTickets (atOrUnder t (k .dock)) t) t) store sheet)
+          ∙ ap (λ (u : Tables). outcomeOf (plainly 12) u store sheet) (lost t r k found (ready .heads) (grant twelve))
+          ∙ served-lost t store sheet r asks op o (own ∙ twelve)
+      go (fail e) =
+          (λ i. outcomeOf (plainly n) (cond (e i) (dropTickets (atOrUnder t (k .dock)) t) t) store sheet)
+          ∙ served-refused t store sheet r asks op o n own ne (eqb-false n 12 e)
+
+  pub refuses : {a : Answer} {image store sheet : List ℕ} → Refuses t n k a image → (op : Operation) → operationOf (r .op) ≡ op → ownRefusal op t r ≡ n
+      → Serves (serve (stateOf t store sheet) r) a image store sheet
+  refuses {store = store} {sheet = sheet} left op o own = leaves (left .holds) (left .answer) (refused-served store sheet op o own)
+
 -- ---- tickets removed leave the entries linked
 pub entries-kept : (gone : Name → Bool) (t u : Tables) → u ≡ dropTickets gone t → LinkedEntries (t .entries) → LinkedEntries (u .entries)
 unfolding dropTickets
 entries-kept gone t u e linked = subst (λ (x : Tables). LinkedEntries (x .entries)) (sym e) linked
-
--- ---- programs counted over all pads
-module _ (a b : ℕ) (low : b < 8) where
-  pub pad-part : (8 * a + b) / 8 ≡ a
-  pad-part = omega (arith, low)
-
-  pub program-part : (8 * a + b) % 8 ≡ b
-  program-part = omega (arith, low)
-
-  pub tickets-there : (t : Tables) → ticketsOf t ((8 * a + b) / 8) ((8 * a + b) % 8) ≡ ticketsOf t a b
-  tickets-there t = λ i. ticketsOf t (pad-part i) (program-part i)
-
-  pub given-there : (t : Tables) (k : Ticket) → give t ((8 * a + b) / 8) ((8 * a + b) % 8) k ≡ give t a b k
-  given-there t k = λ i. give t (pad-part i) (program-part i) k

@@ -1,2 +1,4 @@
 pub mod Outcomes
 pub mod Ready
+pub mod Decides
+pub mod Refusing

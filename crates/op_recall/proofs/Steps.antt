@@ -1,7 +1,7 @@
--- A recall by the tests that the code makes, one after the other, and what it leaves.
+-- What a recall leaves.
 use Prim.Native.Nat.{ℕ}
-use mathlib.Core.Path.{_≡_, refl, ap, _∙_}
-use mathlib.Core.Bool.{true, false, _||_}
+use mathlib.Core.Path.{_≡_, sym, ap, _∙_}
+use mathlib.Core.Bool.{_||_}
 use mathlib.Core.List.{List}
 use borrow.Author.Tests.{eq-eqb, ne-eqb}
 use Rattle.tables.specs.declared.{Name.Name, Ticket.Ticket, Tables.Tables}
@@ -10,27 +10,14 @@ use Rattle.tables.specs.Chains.{atOrUnder, atOrBelow}
 use Rattle.tables.specs.Change.{dropTickets, dropEntries}
 use Rattle.machine.specs.declared.Request.{Request}
 use Rattle.machine.specs.State.{accepted, withTables, askedName, asked}
-use Rattle.machine.specs.Refusal.{_when_else_}
-use Rattle.machine.specs.Operation.{recalling}
+use Rattle.machine.specs.Operation.{recalling, operationOf}
 use Rattle.machine.specs.Recall.{recallRefusal, recallTables, afterRecall}
-use Rattle.machine.specs.Step.{ownRefusal, afterOwn}
+use Rattle.machine.specs.Step.{ownRefusal, afterOwn, serve}
+use Rattle.op_form.proofs.Numbers.{op-recall}
+use Rattle.op_refusals.proofs.Results.{recall-not-lost}
 use Rattle.op_outcome.specs.Outcomes.{stateOf, outcomeOf, plainly}
-use Rattle.tables.specs.Kinds.{isLive, isRecall}
-
--- ---- the chain, over the ticket that was found
-module _ (t : Tables) (r : Request) (k : Ticket) (e : asked t r ≡ k) where
-  pub nothing-to-recall : isLive (k .kind) ≡ false → ownRefusal recalling t r ≡ 4
-  unfolding ownRefusal recallRefusal _when_else_
-  nothing-to-recall h = rw (e, h)
-
-  module _ (live : isLive (k .kind) ≡ true) where
-    pub no-recall : isRecall (k .kind) ≡ false → ownRefusal recalling t r ≡ 5
-    unfolding ownRefusal recallRefusal _when_else_
-    no-recall h = rw (e, live, h)
-
-    pub may-recall : isRecall (k .kind) ≡ true → ownRefusal recalling t r ≡ 0
-    unfolding ownRefusal recallRefusal _when_else_
-    may-recall h = rw (e, live, h)
+use Rattle.op_outcome.specs.Ready.{Asks}
+use Rattle.op_outcome.proofs.Laws.{served-done, served-refused}
 
 -- ---- the tables after, from what the code has removed
 module _ (t : Tables) (r : Request) (k : Ticket) (e : asked t r ≡ k) where
@@ -49,6 +36,14 @@ module _ (t : Tables) (r : Request) (k : Ticket) (e : asked t r ≡ k) where
       ∙ rw (e, ne-eqb (k .other .pad) (r .pad) h)
 
 -- ---- the outcome
-pub after-recall : (t : Tables) (store sheet : List ℕ) (r : Request) → outcomeOf (plainly 0) (recallTables t r) store sheet ≡ afterOwn recalling (stateOf t store sheet) r
-unfolding afterOwn afterRecall accepted withTables
-after-recall t store sheet r = refl
+module _ (t : Tables) (store sheet : List ℕ) (r : Request) (asks : Asks 3 r) where
+  op : operationOf (r .op) ≡ recalling
+  op = op-recall (r .op) (asks .number)
+
+  pub refused : {n : ℕ} → n ≡ recallRefusal t r → (n ≡ 0 → ⊥) → outcomeOf (plainly n) t store sheet ≡ serve (stateOf t store sheet) r
+  unfolding ownRefusal
+  refused {n} e ne = served-refused t store sheet r (asks .early) recalling op n (sym e) ne (λ z. recall-not-lost t r (sym e ∙ z))
+
+  pub recalled : recallRefusal t r ≡ 0 → {u : Tables} → u ≡ recallTables t r → outcomeOf (plainly 0) u store sheet ≡ serve (stateOf t store sheet) r
+  unfolding ownRefusal afterOwn afterRecall accepted withTables
+  recalled e f = ap (λ (u : Tables). outcomeOf (plainly 0) u store sheet) f ∙ served-done t store sheet r (asks .early) recalling op e

@@ -1,2 +1,2 @@
-pub mod PassTests
-pub mod AccessTests
+pub mod Parts
+pub mod Results

@@ -1,19 +1,24 @@
-// The refusals of pass, read and write, decided from what was found.
+// The refusals of the operations, decided from what was found.
 ghost use mathlib.Core.Path.{_≡_};
-ghost use mathlib.Core.Bool.{not, _&&_};
-ghost use lib.Dec.{eqb};
+ghost use mathlib.Core.Bool.{not, _||_};
+ghost use Rattle.rights.specs.Rules.{within, canPass};
 ghost use Rattle.tables.specs.declared.Tables.{Tables};
 ghost use Rattle.tables.specs.Names.{sameProgram};
-ghost use Rattle.tables.specs.Lookup.{entryOf};
 ghost use Rattle.machine.specs.declared.Request.{Request};
 ghost use Rattle.machine.specs.State.{asked};
-ghost use Rattle.machine.specs.Pass.{passRefusal};
-ghost use Rattle.machine.specs.Access.{accessRefusal};
-ghost use Rattle.op_refusals.specs.Found.{Found};
+ghost use Rattle.machine.specs.Recall.{recallRefusal};
+ghost use Rattle.machine.specs.GiveBack.{giveBackRefusal};
+ghost use Rattle.op_refusals.specs.Parts.{kindRefusal, passTicketRefusal, passRoomRefusal, accessTicketRefusal};
 use machine::Request;
 use rights::Rights;
-use tables::Entry;
+use tables::Kind;
 use tables::Ticket;
+
+// What a program has for a new ticket: whether all its places are taken, and its last number.
+pub struct Seat {
+    pub full: bool,
+    pub last: u16,
+}
 
 fn is_to_itself(r: Request) -> bool
     ensures { λ b. ⌜ b ≡ sameProgram (r .pad) (r .program) (r .topad) (r .toprogram) ⌝ }
@@ -24,25 +29,19 @@ fn is_to_itself(r: Request) -> bool
     r.program == r.toprogram
 }
 
-// To another pad, and the dock has no entry of the ticket's dock name.
-fn lacks_entry(e: Entry, r: Request) -> bool
-    ensures { λ b. ⌜ b ≡ (not (eqb (r .pad) (r .topad)) && not (e .live)) ⌝ }
+// Does a ticket with these rights lack pass on, or one of the rights asked for?
+fn lacks_rights(held: Rights, asked: Rights) -> bool
+    ensures { λ b. ⌜ b ≡ (not (canPass held) || not (within asked held)) ⌝ }
 {
-    if r.pad == r.topad {
-        return false;
+    if !held.can_pass() {
+        return true;
     }
-    !e.live
+    !held.contains(asked)
 }
 
-// What a new ticket needs of a program: its lowest free place, 8 where there is none, and its last number.
-pub struct Seat {
-    pub place: usize,
-    pub last: u16,
-}
-
-// A pass: 4, 5, 8, 6, 7, 9, 10, 12 or 0, from the ticket asked for, the seats of asker and recipient, and the entry of the ticket's dock name.
-pub fn pass(k: Ticket, p: Seat, q: Seat, e: Entry, r: Request) -> u16
-    ensures { λ n. ⌜ ((t : Tables) → Found t r k p q e → n ≡ passRefusal t r) ⌝ }
+// A pass, by the ticket asked for: 4, 5, 8, 6, 7 or 0.
+pub fn pass_ticket(k: Ticket, r: Request) -> u16
+    ensures { λ n. ⌜ n ≡ passTicketRefusal k r ⌝ }
 {
     let kind = k.kind;
     if !kind.is_live() {
@@ -58,17 +57,21 @@ pub fn pass(k: Ticket, p: Seat, q: Seat, e: Entry, r: Request) -> u16
         return 6;
     }
     let held = k.rights;
-    if !held.can_pass() {
-        return 7;
-    }
     let asked = Rights::make(r.rights);
-    if !held.contains(asked) {
+    if lacks_rights(held, asked) {
         return 7;
     }
-    if 8 <= p.place {
+    0
+}
+
+// A pass, by the seats of asker and recipient, and whether the dock has lost the ticket's entry: 9, 10, 12 or 0.
+pub fn pass_room(p: Seat, q: Seat, lost: bool) -> u16
+    ensures { λ n. ⌜ n ≡ passRoomRefusal p q lost ⌝ }
+{
+    if p.full {
         return 9;
     }
-    if 8 <= q.place {
+    if q.full {
         return 9;
     }
     if 65535 <= p.last {
@@ -77,15 +80,42 @@ pub fn pass(k: Ticket, p: Seat, q: Seat, e: Entry, r: Request) -> u16
     if 65535 <= q.last {
         return 10;
     }
-    if lacks_entry(e, r) {
+    if lost {
         return 12;
     }
     0
 }
 
-// A read (right 1) or write (right 2): 4, 5, 6, 7, then what the dock says. `k` is the ticket asked for, `e` the entry of its dock name.
-pub fn access(k: Ticket, e: Entry, first: u16, right: u16) -> u16
-    ensures { λ n. ⌜ ((t : Tables) (r : Request) → asked t r ≡ k → entryOf t (k .dock) ≡ e → r .first ≡ first → n ≡ accessRefusal right t r) ⌝ }
+// 4 where there is no live ticket, 5 where it isn't of the kind that is wanted, or 0.
+fn kind_refusal(kind: Kind, wanted: bool) -> u16
+    ensures { λ n. ⌜ n ≡ kindRefusal kind wanted ⌝ }
+{
+    if !kind.is_live() {
+        return 4;
+    }
+    if !wanted {
+        return 5;
+    }
+    0
+}
+
+pub fn recall(k: Ticket) -> u16
+    ensures { λ n. ⌜ ((t : Tables) (r : Request) → asked t r ≡ k → n ≡ recallRefusal t r) ⌝ }
+{
+    let kind = k.kind;
+    kind_refusal(kind, kind.is_recall())
+}
+
+pub fn give_back(k: Ticket) -> u16
+    ensures { λ n. ⌜ ((t : Tables) (r : Request) → asked t r ≡ k → n ≡ giveBackRefusal t r) ⌝ }
+{
+    let kind = k.kind;
+    kind_refusal(kind, kind.is_taken())
+}
+
+// A read or write, by the pad's own tests: 4, 5, 6, 7 or 0. The dock's check comes after.
+pub fn access_ticket(k: Ticket, first: u16, right: Rights) -> u16
+    ensures { λ n. ⌜ n ≡ accessTicketRefusal right k first ⌝ }
 {
     let kind = k.kind;
     if !kind.is_live() {
@@ -98,10 +128,8 @@ pub fn access(k: Ticket, e: Entry, first: u16, right: u16) -> u16
         return 6;
     }
     let held = k.rights;
-    let needed = Rights::make(right);
-    if !held.contains(needed) {
+    if !held.contains(right) {
         return 7;
     }
-    let sheet = k.first as usize + first as usize;
-    op_check::check(e, sheet, right)
+    0
 }

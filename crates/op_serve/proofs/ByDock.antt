@@ -3,7 +3,7 @@ use mathlib.Core.Path.{_≡_, refl, sym, ap, _∙_}
 use mathlib.Core.Bool.{Bool, true, false, _&&_, _||_}
 use lib.Dec.{eqb}
 use borrow.Author.Tests.{eq-eqb}
-use Rattle.lists.proofs.Tests.{Case, pass, fail, case, cannot-pass}
+use Rattle.lists.proofs.Tests.{Case, pass, fail, case, cannot-pass, and-false}
 use Rattle.tables.specs.declared.{Name.Name, Tables.Tables}
 use Rattle.tables.specs.Kinds.{isLive, isGrant, isHead, isRecall}
 use Rattle.tables.specs.Names.{eqName}
@@ -22,11 +22,7 @@ module _ (t : Tables) (ok : InOrder t) where
   same-pad d h n e = go (case (eqName d h))
     where
       go : Case (eqName d h) → eqName d h ≡ (eqb (n .pad) (h .pad) && eqName d h)
-      go (fail z) = rw z (no (eqb (n .pad) (h .pad)))
-        where
-          no : (b : Bool) → false ≡ (b && false)
-          no true = refl
-          no false = refl
+      go (fail z) = rw z (sym (and-false (eqb (n .pad) (h .pad))))
       go (pass z) = rw (eq-eqb (n .pad) (h .pad) (sym e ∙ ap (λ (m : Name). m .pad) (eqName-true d h z)))
 
   docked-grant : (h n : Name) → isGrant (lookup t n .kind) ≡ true → dockedTo t h n ≡ eqName (lookup t n .dock) h

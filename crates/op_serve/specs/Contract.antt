@@ -1,4 +1,4 @@
--- What a served request leaves, field by field, as the machine's outcome, the tables as their image; and what the lent buffers must be.
+-- What the lent buffers must be, and what a served request leaves in them, field by field, as the machine's outcome.
 use Prim.Native.Nat.{ℕ}
 use mathlib.Core.Path.{_≡_}
 use mathlib.Core.Bool.{true}
@@ -14,7 +14,7 @@ pub record Lengths (bytes buffer : List ℕ) : Type 0 where
   pub sheet : length buffer ≡ 64
 
 -- an image in order, and buffers of the lengths that they must have
-pub record InOrder (image store sheet : List ℕ) : Type 0 where
+pub record ReadyToServe (image store sheet : List ℕ) : Type 0 where
   pub is : isImage image ≡ true
   pub order : inOrder (decode image) ≡ true
   pub lengths : Lengths store sheet
