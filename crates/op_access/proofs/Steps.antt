@@ -7,14 +7,14 @@ use mathlib.Core.List.{List}
 use Rattle.tables.specs.declared.{Ticket.Ticket, Tables.Tables}
 use Rattle.tables.specs.Kinds.{isGrant}
 use Rattle.machine.specs.declared.{Request.Request, Answer.Answer}
-use Rattle.machine.specs.State.{asked, accepted, sheetAt, putSheets}
+use Rattle.machine.specs.State.{asked, accepted, sheetAt, putSheets, stateOf}
 use Rattle.machine.specs.Operation.{Operation, reading, writing, operationOf}
 use Rattle.machine.specs.Access.{sheetOf, accessRefusal, afterRead, afterWrite}
 use Rattle.machine.specs.Step.{ownRefusal, afterOwn, serve}
 use Rattle.op_form.specs.Early.{earlyRefusal}
 use Rattle.op_refusals.proofs.Results.{access-grant, sheet-low}
 use Rattle.op_outcome.specs.declared.Decision.{Decision}
-use Rattle.op_outcome.specs.Outcomes.{stateOf, outcomeOf, plainly, Serves}
+use Rattle.op_outcome.specs.Outcomes.{outcomeOf, plainly, Serves}
 use Rattle.op_outcome.specs.Ready.{Ready}
 use Rattle.op_outcome.specs.Decides.{Decides}
 use Rattle.op_outcome.specs.Refusing.{MayRefuse, Refuses}

@@ -2,11 +2,12 @@
 ghost use mathlib.Core.Path.{_≡_};
 ghost use mathlib.Core.Bool.{true};
 ghost use lib.ListN.{length};
+ghost use Rattle.machine.specs.State.{stateOf};
 ghost use Rattle.machine.specs.Access.{accessRefusal};
 ghost use Rattle.machine.specs.Step.{serve};
 ghost use Rattle.image.specs.Layout.{imageSize};
 ghost use Rattle.image.specs.Image.{decode, isImage};
-ghost use Rattle.op_outcome.specs.Outcomes.{stateOf, Serves};
+ghost use Rattle.op_outcome.specs.Outcomes.{Serves};
 ghost use Rattle.op_outcome.specs.Ready.{Ready, Asks};
 ghost use Rattle.op_outcome.specs.Decides.{Decides};
 use machine::Answer;

@@ -9,13 +9,13 @@ use Rattle.tables.specs.Chains.{atOrUnder, atOrBelow}
 use Rattle.tables.specs.Change.{dropTickets, dropEntries}
 use Rattle.tables.proofs.KindLaws.{head-grant, taken-head}
 use Rattle.machine.specs.declared.Request.{Request}
-use Rattle.machine.specs.State.{accepted, clearSheets, askedName, asked}
+use Rattle.machine.specs.State.{accepted, clearSheets, askedName, asked, stateOf}
 use Rattle.machine.specs.Operation.{givingBack, operationOf}
 use Rattle.machine.specs.GiveBack.{giveBackRefusal, giveBackTables, afterGiveBack}
 use Rattle.machine.specs.Step.{ownRefusal, afterOwn, serve}
 use Rattle.op_form.proofs.Numbers.{op-give-back}
 use Rattle.op_refusals.proofs.Results.{give-back-not-lost, gives-taken}
-use Rattle.op_outcome.specs.Outcomes.{stateOf, outcomeOf, plainly}
+use Rattle.op_outcome.specs.Outcomes.{outcomeOf, plainly}
 use Rattle.op_outcome.specs.Ready.{Ready, Asks}
 use Rattle.op_outcome.proofs.Laws.{served-done, served-refused}
 use Rattle.tables.specs.Kinds.{isHead}

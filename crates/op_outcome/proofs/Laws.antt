@@ -12,7 +12,7 @@ use Rattle.tables.specs.Lookup.{lookup}
 use Rattle.tables.specs.Chains.{atOrUnder}
 use Rattle.tables.specs.Change.{dropTickets}
 use Rattle.machine.specs.declared.{Request.Request, Answer.Answer}
-use Rattle.machine.specs.State.{State, Outcome, refused, withTables, askedName, asked}
+use Rattle.machine.specs.State.{State, Outcome, refused, withTables, askedName, asked, stateOf}
 use Rattle.machine.specs.Operation.{Operation, operationOf}
 use Rattle.machine.specs.Step.{ownRefusal, afterOwn, dropHead, outcome, serve}
 use Rattle.image.specs.Image.{decode, isImage}
@@ -21,7 +21,7 @@ use Rattle.op_drop_entries.specs.Links.{LinkedEntries}
 use Rattle.op_drop_tickets.specs.Docked.{Heads}
 use Rattle.op_form.specs.Early.{earlyRefusal}
 use Rattle.op_form.proofs.Laws.{serve-past}
-use Rattle.op_outcome.specs.Outcomes.{stateOf, outcomeOf, plainly, Serves}
+use Rattle.op_outcome.specs.Outcomes.{outcomeOf, plainly, Serves}
 use Rattle.op_outcome.specs.Ready.{Ready}
 use Rattle.op_outcome.specs.Refusing.{MayRefuse, Refuses, afterRefusal}
 

@@ -5,12 +5,8 @@ use mathlib.Core.Bool.{true}
 use mathlib.Core.List.{List}
 use Rattle.tables.specs.declared.Tables.{Tables}
 use Rattle.machine.specs.declared.Answer.{Answer}
-use Rattle.machine.specs.State.{State, Outcome, answerOf}
+use Rattle.machine.specs.State.{Outcome, answerOf, stateOf}
 use Rattle.image.specs.Image.{decode, isImage}
-
--- the tables with the lent store and sheet buffer
-abbrev pub stateOf : Tables → List ℕ → List ℕ → State
-stateOf t store sheet = record { tables = t; store = store; sheet = sheet }
 
 abbrev pub outcomeOf : Answer → Tables → List ℕ → List ℕ → Outcome
 outcomeOf a t store sheet = record { answer = a; state = stateOf t store sheet }

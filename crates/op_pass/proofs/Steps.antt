@@ -12,13 +12,13 @@ use Rattle.tables.specs.Names.{nameOf, grantTicket, headTicket, recallTicket, e
 use Rattle.tables.specs.Change.{give, putEntry}
 use Rattle.rights.specs.Rules.{rightsOf}
 use Rattle.machine.specs.declared.{Request.Request, Answer.Answer}
-use Rattle.machine.specs.State.{answerOf, accepted, withTables, askedName, asked}
+use Rattle.machine.specs.State.{answerOf, accepted, withTables, askedName, asked, stateOf}
 use Rattle.machine.specs.Operation.{passing, operationOf}
 use Rattle.machine.specs.Pass.{passRefusal, passTables, afterPass}
 use Rattle.machine.specs.Step.{ownRefusal, afterOwn, serve}
 use Rattle.op_form.proofs.Numbers.{op-pass}
 use Rattle.op_refusals.proofs.Results.{pass-grant}
-use Rattle.op_outcome.specs.Outcomes.{stateOf, outcomeOf, Serves}
+use Rattle.op_outcome.specs.Outcomes.{outcomeOf, Serves}
 use Rattle.op_outcome.specs.Ready.{Ready, Asks}
 use Rattle.op_outcome.specs.Refusing.{MayRefuse, Refuses}
 use Rattle.op_outcome.proofs.Laws.{may-refuse, refuses, served-done}

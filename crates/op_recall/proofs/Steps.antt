@@ -9,13 +9,13 @@ use Rattle.tables.specs.Names.{eqName}
 use Rattle.tables.specs.Chains.{atOrUnder, atOrBelow}
 use Rattle.tables.specs.Change.{dropTickets, dropEntries}
 use Rattle.machine.specs.declared.Request.{Request}
-use Rattle.machine.specs.State.{accepted, withTables, askedName, asked}
+use Rattle.machine.specs.State.{accepted, withTables, askedName, asked, stateOf}
 use Rattle.machine.specs.Operation.{recalling, operationOf}
 use Rattle.machine.specs.Recall.{recallRefusal, recallTables, afterRecall}
 use Rattle.machine.specs.Step.{ownRefusal, afterOwn, serve}
 use Rattle.op_form.proofs.Numbers.{op-recall}
 use Rattle.op_refusals.proofs.Results.{recall-not-lost}
-use Rattle.op_outcome.specs.Outcomes.{stateOf, outcomeOf, plainly}
+use Rattle.op_outcome.specs.Outcomes.{outcomeOf, plainly}
 use Rattle.op_outcome.specs.Ready.{Asks}
 use Rattle.op_outcome.proofs.Laws.{served-done, served-refused}
 

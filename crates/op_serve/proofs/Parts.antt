@@ -8,13 +8,13 @@ use mathlib.Core.List.{List}
 use lib.ListN.{getD}
 use Rattle.tables.specs.declared.Tables.{Tables}
 use Rattle.machine.specs.declared.{Request.Request, Answer.Answer}
-use Rattle.machine.specs.State.{Outcome, refused}
+use Rattle.machine.specs.State.{Outcome, refused, stateOf}
 use Rattle.machine.specs.Step.{serve}
 use Rattle.image.specs.Image.{encode, decode, isImage}
 use Rattle.image.proofs.RoundTrip.{encode-decode}
 use Rattle.op_form.specs.Early.{earlyRefusal}
 use Rattle.op_form.proofs.Laws.{op-low, op-high, serve-stopped}
-use Rattle.op_outcome.specs.Outcomes.{stateOf, outcomeOf, plainly, Serves}
+use Rattle.op_outcome.specs.Outcomes.{outcomeOf, plainly, Serves}
 use Rattle.op_outcome.specs.Ready.{Asks}
 use Rattle.op_outcome.proofs.Laws.{stays}
 use Rattle.op_serve.specs.Contract.{LeavesLent}

@@ -1,8 +1,8 @@
 // The step past 13 and 14 on lent tables, for callers that know their buffers' lengths and that the tables are in order. It pays for no
 // order test and changes the image where it lies.
+ghost use Rattle.machine.specs.State.{stateOf};
 ghost use Rattle.machine.specs.Step.{serve};
 ghost use Rattle.image.specs.Image.{decode};
-ghost use Rattle.op_outcome.specs.Outcomes.{stateOf};
 ghost use Rattle.op_serve.specs.Contract.{ReadyToServe, LeavesLent};
 use machine::Answer;
 use machine::Request;

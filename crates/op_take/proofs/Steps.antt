@@ -13,7 +13,7 @@ use Rattle.tables.specs.Lookup.{lastOf}
 use Rattle.tables.specs.Sheets.{lowestRun, hasRun}
 use Rattle.tables.specs.Change.{hasPlace, newName, give, putEntry}
 use Rattle.machine.specs.declared.Request.{Request}
-use Rattle.machine.specs.State.{answerOf, accepted, clearSheets}
+use Rattle.machine.specs.State.{answerOf, accepted, clearSheets, stateOf}
 use Rattle.machine.specs.Refusal.{_when_else_, isSpent}
 use Rattle.machine.specs.Operation.{taking, operationOf}
 use Rattle.machine.specs.Take.{takeRefusal, takeTables, afterTake}
@@ -24,7 +24,7 @@ use Rattle.op_run.proofs.Laws.{run-found, no-run-found, run-fits}
 use Rattle.op_form.proofs.Numbers.{op-take}
 use Rattle.op_refusals.specs.declared.Seat.{Seat}
 use Rattle.op_refusals.specs.Found.{SeatOf}
-use Rattle.op_outcome.specs.Outcomes.{stateOf, outcomeOf, plainly}
+use Rattle.op_outcome.specs.Outcomes.{outcomeOf, plainly}
 use Rattle.op_outcome.specs.Ready.{Asks}
 use Rattle.op_outcome.proofs.Laws.{served-done, served-refused}
 use Rattle.op_take.specs.declared.Decision.{Decision}

@@ -109,12 +109,7 @@ fn append_other(out: &mut [u8], at: usize, number: u16) -> usize
     requires { ⌜ Countable at (otherLine number) ⌝ }
     ensures { λ r. ⌜ Appends (otherLine number) (now (out .entry)) (now (out .exit)) at r ⌝ }
 {
-    let other = Answer {
-        result: 15,
-        ticket: 0,
-        recipient: 0,
-    };
-    append_answer(out, at, number, other, 0)
+    append_answer(out, at, number, op_outcome::plain(15), 0)
 }
 
 // ---- lines, over the image and the store that the caller lends
