@@ -28,6 +28,7 @@ module _ (t : Tables) (a b : ℕ) (low : b ≤ 7) (m : ℕ) (e : m ≡ 8 * a + b
     where
       found : place ≡ firstIndex isFree (ticketsOf t a b)
       found = f ∙ (λ i. firstIndex isFree (ticketsOf t (pad-part i) (program-part i)))
+
       go : Case (leb 8 place) → leb 8 place ≡ not (hasPlace t a b)
       go (pass h) = h ∙ sym (ap not (has-no-place t a b long place found (leb-true 8 place h)))
       go (fail h) = h ∙ sym (ap not (has-place t a b long place found (leb-false 8 place h)))

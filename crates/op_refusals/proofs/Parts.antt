@@ -62,10 +62,10 @@ module _ (t : Tables) (r : Request) (k : Ticket) (e : asked t r ≡ k) {first : 
   room-decides z {p} {q} {lost} f h =
       let found : passRoomRefusal p q lost ≡ room t r k
       = λ i.
-          9 when f .asker .full i || f .recipient .full i else
-          10 when leb 65535 (f .asker .last i) || leb 65535 (f .recipient .last i) else
-          12 when f .entry i else
-          0 in
+      9 when f .asker .full i || f .recipient .full i else
+      10 when leb 65535 (f .asker .last i) || leb 65535 (f .recipient .last i) else
+      12 when f .entry i else
+      0 in
       second-decides said z (h ∙ found) ∙ sym pass-in-parts
 
 -- a pass that has room has numbers left

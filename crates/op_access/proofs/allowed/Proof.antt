@@ -16,8 +16,8 @@ returns c =
     let s = c .before .before .before .before in
     let found = c .before .before .asked .ensures in
     record {
-    result = pad-refuses (s .args .right .bits) (decode (s .args .image .now)) (s .args .r) _ found (c .before .access-ticket .ensures) (c .if1 .taken);
-    ticket = found;
+      result = pad-refuses (s .args .right .bits) (decode (s .args .image .now)) (s .args .r) _ found (c .before .access-ticket .ensures) (c .if1 .taken);
+      ticket = found;
     }
 
 entry-requires : tie.Need-entry-requires
@@ -42,8 +42,8 @@ returns-2 c =
     let found = c .before .before .before .before .before .before .before .asked .ensures in
     let dock = c .check .ensures t _ (sym (c .before .before .before .entry .ensures)) in
     record {
-    result = dock-decides (s .args .right .bits) t (s .args .r) _ found (c .before .before .before .before .before .before .access-ticket .ensures) (c .before .before .before .before .before .if1 .left) dock;
-    ticket = found;
+      result = dock-decides (s .args .right .bits) t (s .args .r) _ found (c .before .before .before .before .before .before .access-ticket .ensures) (c .before .before .before .before .before .if1 .left) dock;
+      ticket = found;
     }
 
 pub allowed-spec : {M : Type 1} → statement M

@@ -20,8 +20,8 @@ returns c =
     let t = decode (s .args .image .now) in
     let d = dropTickets (atOrUnder t (s .args .k .dock)) t in
     record {
-    answer = c .plain .ensures;
-    holds = record { is = s .pre .0; tables = sym (ap (λ (b : Bool). cond b d t) (ne-eqb (s .args .result) 12 (c .before .if1 .taken))) };
+      answer = c .plain .ensures;
+      holds = record { is = s .pre .0; tables = sym (ap (λ (b : Bool). cond b d t) (ne-eqb (s .args .result) 12 (c .before .if1 .taken))) };
     }
 
 drop-head-requires : tie.Need-drop-head-requires
@@ -42,11 +42,11 @@ returns-2 c =
     let t = decode (s .args .image .now) in
     let d = dropTickets (atOrUnder t (s .args .k .dock)) t in
     record {
-    answer = c .plain2 .ensures ∙ ap plainly (sym (c .before .before .before .before .before .before .if1 .left));
-    holds = record {
-    is = c .before .before .before .drop-head .ensures .is;
-    tables = c .before .before .before .drop-head .ensures .tables ∙ sym (ap (λ (b : Bool). cond b d t) (eq-eqb (s .args .result) 12 (c .before .before .before .before .before .before .if1 .left)));
-    };
+      answer = c .plain2 .ensures ∙ ap plainly (sym (c .before .before .before .before .before .before .if1 .left));
+      holds = record {
+        is = c .before .before .before .drop-head .ensures .is;
+        tables = c .before .before .before .drop-head .ensures .tables ∙ sym (ap (λ (b : Bool). cond b d t) (eq-eqb (s .args .result) 12 (c .before .before .before .before .before .before .if1 .left)));
+      };
     }
 
 pub refuse-spec : {M : Type 1} → statement M

@@ -28,8 +28,8 @@ returns c =
     let at = c .before .before .program-at .ensures in
     let long = decoded-sized image .tickets a b (omega (arith, s .pre .1 .pad)) (omega (arith, s .pre .1 .program)) in
     record {
-    full = is-full (decode image) a b (s .pre .1 .program) _ at long _ (c .before .free-place .ensures);
-    last = c .last-at .ensures ∙ ap (λ (m : ℕ). getD (lastsIn image) m 0) at ∙ flattened image .last a b (omega (arith, s .pre .1 .pad)) (omega (arith, s .pre .1 .program));
+      full = is-full (decode image) a b (s .pre .1 .program) _ at long _ (c .before .free-place .ensures);
+      last = c .last-at .ensures ∙ ap (λ (m : ℕ). getD (lastsIn image) m 0) at ∙ flattened image .last a b (omega (arith, s .pre .1 .pad)) (omega (arith, s .pre .1 .program));
     }
 
 pub seat-spec : {M : Type 1} → statement M

@@ -69,10 +69,10 @@ returns-3 c =
     let found = c .before .before .before .before .before .before .before .before .before .before .asked .ensures in
     let all : Found t r (c .before .before .before .before .before .before .before .before .before .before .asked .result) (c .before .before .before .before .before .before .before .seat .result) (c .before .before .before .before .before .before .seat2 .result) (c .before .before .before .before .is-lost .result) = record { asker = c .before .before .before .before .before .before .before .seat .ensures; recipient = c .before .before .before .before .before .before .seat2 .ensures; entry = c .before .before .before .before .is-lost .ensures } in
     record {
-    result = room-decides t r _ found (c .before .before .before .before .before .before .before .before .before .pass-ticket .ensures) (c .before .before .before .before .before .before .before .before .if1 .left) all (sym (c .before .before .if2 .left) ∙ c .before .before .before .pass-room .ensures);
-    ticket = found;
-    own = λ _. omega (arith, c .before .before .before .before .before .before .before .seat .ensures .last);
-    other = λ _. omega (arith, c .before .before .before .before .before .before .seat2 .ensures .last);
+      result = room-decides t r _ found (c .before .before .before .before .before .before .before .before .before .pass-ticket .ensures) (c .before .before .before .before .before .before .before .before .if1 .left) all (sym (c .before .before .if2 .left) ∙ c .before .before .before .pass-room .ensures);
+      ticket = found;
+      own = λ _. omega (arith, c .before .before .before .before .before .before .before .seat .ensures .last);
+      other = λ _. omega (arith, c .before .before .before .before .before .before .seat2 .ensures .last);
     }
 
 pub allowed-spec : {M : Type 1} → statement M

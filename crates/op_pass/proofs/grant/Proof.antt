@@ -23,8 +23,8 @@ returns : tie.Need-returns
 returns c =
     let a = c .before .before .before .before .before .before .before .before .before .before .before .before .args in
     record {
-    is = c .before .before .give .ensures .is;
-    tables = granted-near (decode (a .image .now)) (a .k) (a .r) (a .n) (c .before .before .before .before .before .before .if1 .taken) (c .before .before .before .before .before .asked-name .ensures) (c .before .before .before .before .child .ensures) (c .before .before .give .ensures .tables);
+      is = c .before .before .give .ensures .is;
+      tables = granted-near (decode (a .image .now)) (a .k) (a .r) (a .n) (c .before .before .before .before .before .before .if1 .taken) (c .before .before .before .before .before .asked-name .ensures) (c .before .before .before .before .child .ensures) (c .before .before .give .ensures .tables);
     }
 
 head-requires : tie.Need-head-requires
@@ -46,8 +46,8 @@ returns-2 : tie.Need-returns-2
 returns-2 c =
     let a = c .before .before .before .before .before .before .before .before .before .before .before .before .before .before .before .before .args in
     record {
-    is = c .before .before .make .ensures .is;
-    tables = granted-far (decode (a .image .now)) (a .k) (a .r) (a .n) (c .before .before .before .before .before .before .before .before .before .before .if1 .left) (c .before .before .before .before .before .before .before .before .before .head .ensures) (c .before .before .before .before .before .before .before .give2 .ensures .tables) (c .before .before .before .before .entry .ensures) (c .before .before .make .ensures .tables);
+      is = c .before .before .make .ensures .is;
+      tables = granted-far (decode (a .image .now)) (a .k) (a .r) (a .n) (c .before .before .before .before .before .before .before .before .before .before .if1 .left) (c .before .before .before .before .before .before .before .before .before .head .ensures) (c .before .before .before .before .before .before .before .give2 .ensures .tables) (c .before .before .before .before .entry .ensures) (c .before .before .make .ensures .tables);
     }
 
 pub grant-spec : {M : Type 1} → statement M
