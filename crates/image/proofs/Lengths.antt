@@ -7,7 +7,7 @@ use Rattle.lists.specs.Parts.{joined}
 use Rattle.lists.proofs.PartLaws.{length-joined}
 use Rattle.tables.specs.declared.{Ticket.Ticket, Program.Program, Pad.Pad, Entry.Entry, Tables.Tables}
 use Rattle.tables.specs.Names.{free, noEntry, noProgram, noPad}
-use Rattle.image.specs.Layout.{ticketSize, programLast, programSize, padSize, entrySize, entriesStart, entriesSize, imageSize}
+use Rattle.image.specs.Layout.{ticketSize, programLastAt, programSize, padSize, entrySize, entriesAt, entriesSize, imageSize}
 use Rattle.image.specs.Numbers.{bytesOf}
 use Rattle.image.specs.Image.{ticketNumbers, ticketBytes, programBytes, padBytes, entryNumbers, entryBytes, encode}
 use Rattle.image.proofs.NumberLaws.{length-bytes}
@@ -20,7 +20,7 @@ pub entry-long : (e : Entry) → length (entryBytes e) ≡ entrySize
 unfolding entryBytes entryNumbers
 entry-long e = length-bytes (entryNumbers e)
 
-pub tickets-long : (p : Program) → length (joined 8 (λ i. ticketBytes (getD (p .tickets) i free))) ≡ programLast
+pub tickets-long : (p : Program) → length (joined 8 (λ i. ticketBytes (getD (p .tickets) i free))) ≡ programLastAt
 tickets-long p = length-joined ticketSize (λ i. ticketBytes (getD (p .tickets) i free)) 8 (λ i h. ticket-long _)
 
 pub program-long : (p : Program) → length (programBytes p) ≡ programSize
@@ -33,7 +33,7 @@ pub pad-long : (p : Pad) → length (padBytes p) ≡ padSize
 unfolding padBytes
 pad-long p = length-joined programSize (λ i. programBytes (getD (p .programs) i noProgram)) 8 (λ i h. program-long _)
 
-pub pads-long : (t : Tables) → length (joined 4 (λ i. padBytes (getD (t .pads) i noPad))) ≡ entriesStart
+pub pads-long : (t : Tables) → length (joined 4 (λ i. padBytes (getD (t .pads) i noPad))) ≡ entriesAt
 pads-long t = length-joined padSize (λ i. padBytes (getD (t .pads) i noPad)) 4 (λ i h. pad-long _)
 
 pub entries-long : (t : Tables) → length (joined 256 (λ i. entryBytes (getD (t .entries) i noEntry))) ≡ entriesSize

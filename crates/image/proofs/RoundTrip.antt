@@ -18,7 +18,7 @@ use Rattle.tables.specs.declared.{Name.Name, Kind.Kind, Ticket.Ticket, Program.
 use Rattle.tables.specs.declared.Kind.the-variants.{Free, Taken, Received, Child, Recall}
 use Rattle.tables.specs.Names.{nameOf, free, noEntry, noProgram, noPad}
 use Rattle.tables.specs.Lookup.{padAt, Sized}
-use Rattle.image.specs.Layout.{ticketSize, programLast, programSize, padSize, entrySize, entriesStart, entriesSize, imageSize}
+use Rattle.image.specs.Layout.{ticketSize, programLastAt, programSize, padSize, entrySize, entriesAt, entriesSize, imageSize}
 use Rattle.image.specs.Numbers.{bytesOf, numberAt}
 use Rattle.image.specs.Image.{kindNumber, kindOf, ticketNumbers, ticketBytes, readTicket, programBytes, readProgram, padBytes, readPad}
 use Rattle.image.specs.Image.{entryNumbers, entryBytes, readEntry, encode, decode, ticketStart, entryStart, kindsOk, livesOk, isImage}
@@ -85,8 +85,8 @@ module _ (p : Program) (bytes : List ℕ) (it : Begins (programBytes p) bytes) w
   unfolding programBytes readProgram
   program-back long =
       let tickets = parts-back ticketSize 8 ticketBytes free readTicket ticket-long (p .tickets) bytes tickets-begin long (λ i h. ticket-back _ _) in
-      let behind = begins-behind (joined 8 (ticketPart p)) (bytesOf (p .last ∷ [])) bytes it programLast (tickets-long p) in
-      let last = sym (number-drop programLast bytes) ∙ number-begins (p .last) [] (drop programLast bytes) behind in
+      let behind = begins-behind (joined 8 (ticketPart p)) (bytesOf (p .last ∷ [])) bytes it programLastAt (tickets-long p) in
+      let last = sym (number-drop programLastAt bytes) ∙ number-begins (p .last) [] (drop programLastAt bytes) behind in
       λ i. record { tickets = tickets i; last = last i }
 
 module _ (p : Pad) (bytes : List ℕ) (it : Begins (padBytes p) bytes) where
@@ -112,14 +112,14 @@ module _ (t : Tables) where
   unfolding encode
   pads-begin = begins-front (joined 4 padPart) (joined 256 entryPart) (encode t) (begins-all (encode t))
 
-  entries-begin : Begins (joined 256 entryPart) (drop entriesStart (encode t))
+  entries-begin : Begins (joined 256 entryPart) (drop entriesAt (encode t))
   unfolding encode
-  entries-begin = begins-behind (joined 4 padPart) (joined 256 entryPart) (encode t) (begins-all (encode t)) entriesStart (pads-long t)
+  entries-begin = begins-behind (joined 4 padPart) (joined 256 entryPart) (encode t) (begins-all (encode t)) entriesAt (pads-long t)
 
 -- the entries stand behind the pads
-entries-in : (bytes : List ℕ) → decode bytes .entries ≡ tabulate 256 (λ i. readEntry (drop (entrySize * i) (drop entriesStart bytes)))
+entries-in : (bytes : List ℕ) → decode bytes .entries ≡ tabulate 256 (λ i. readEntry (drop (entrySize * i) (drop entriesAt bytes)))
 unfolding decode
-entries-in bytes = λ j. tabulate 256 (λ i. readEntry (sym (drop-drop (entrySize * i) entriesStart bytes) j))
+entries-in bytes = λ j. tabulate 256 (λ i. readEntry (sym (drop-drop (entrySize * i) entriesAt bytes) j))
 
 pub decode-encode : (t : Tables) → Sized t → decode (encode t) ≡ t
 unfolding decode
@@ -129,7 +129,7 @@ decode-encode t s =
     (λ i h b. pad-back _ _ b (s .programs i h) (λ j low. s .tickets i j h low)) in
     let entries =
     entries-in (encode t)
-    ∙ parts-back entrySize 256 entryBytes noEntry readEntry entry-long (t .entries) (drop entriesStart (encode t)) (entries-begin t) (s .entries)
+    ∙ parts-back entrySize 256 entryBytes noEntry readEntry entry-long (t .entries) (drop entriesAt (encode t)) (entries-begin t) (s .entries)
     (λ i h. entry-back _ _) in
     λ i. record { pads = pads i; entries = entries i }
 
@@ -143,7 +143,7 @@ kind-place a b i bytes hb hi =
     let start : programSize * (8 * a + b) + ticketSize * i ≡ padSize * a + (programSize * b + ticketSize * i) = omega arith in
     rw (program, place, start, drop-drop (ticketSize * i) (programSize * b), drop-drop, number-drop)
 
-entry-place : (i : ℕ) (bytes : List ℕ) → numberAt (entryStart i) bytes ≡ numberAt 0 (drop (entrySize * i) (drop entriesStart bytes))
+entry-place : (i : ℕ) (bytes : List ℕ) → numberAt (entryStart i) bytes ≡ numberAt 0 (drop (entrySize * i) (drop entriesAt bytes))
 entry-place i bytes = rw (drop-drop, number-drop)
 
 kind-low : (k : Kind) → leb (kindNumber k) 4 ≡ true
@@ -212,8 +212,8 @@ program-again : (bytes : List ℕ) → Bytes programSize bytes → ((i : ℕ) �
 unfolding programBytes readProgram bytesOf tabulate
 program-again bytes b low =
     let tickets = parts-cut ticketSize 8 ticketBytes free readTicket bytes (λ i h. ticket-again _ (bytes-drop (ticketSize * i) ticketSize (omega arith) b) (low i h)) in
-    let last = ap (λ (n : ℕ). bytesOf (n ∷ [])) (sym (number-drop programLast bytes)) ∙ numbers-cut 1 (drop programLast bytes) (bytes-drop programLast 2 (omega arith) b) in
-    (λ i. tickets i ++ last i) ∙ sym (take-add programLast 2 bytes)
+    let last = ap (λ (n : ℕ). bytesOf (n ∷ [])) (sym (number-drop programLastAt bytes)) ∙ numbers-cut 1 (drop programLastAt bytes) (bytes-drop programLastAt 2 (omega arith) b) in
+    (λ i. tickets i ++ last i) ∙ sym (take-add programLastAt 2 bytes)
 
 pad-again : (bytes : List ℕ) → Bytes padSize bytes → ((b i : ℕ) → b < 8 → i < 8 → numberAt 0 (drop (ticketSize * i) (drop (programSize * b) bytes)) ≤ 4)
     → padBytes (readPad bytes) ≡ take padSize bytes
@@ -242,7 +242,7 @@ module _ (bytes : List ℕ) (e : isImage bytes ≡ true) where
       rw (sym (kind-place a b i bytes hb hi))
       (leb-true _ 4 (every-at 256 (λ place. leb (numberAt (ticketStart place) bytes) 4) image-kinds (64 * a + 8 * b + i) (omega arith)))
 
-  lives : (i : ℕ) → i < 256 → numberAt 0 (drop (entrySize * i) (drop entriesStart bytes)) ≤ 1
+  lives : (i : ℕ) → i < 256 → numberAt 0 (drop (entrySize * i) (drop entriesAt bytes)) ≤ 1
   unfolding livesOk
   lives i h =
       rw (sym (entry-place i bytes)) (leb-true _ 1 (every-at 256 (λ place. leb (numberAt (entryStart place) bytes) 1) image-lives i h))
@@ -260,6 +260,6 @@ encode-decode bytes small e =
     (λ i h. pad-again _ (bytes-drop (padSize * i) padSize (omega arith) whole) (λ b j. kinds bytes e i b j h)) in
     let entries =
     ap (λ (l : List Entry). joined 256 (λ i. entryBytes (getD l i noEntry))) (entries-in bytes)
-    ∙ parts-cut entrySize 256 entryBytes noEntry readEntry (drop entriesStart bytes)
-    (λ i h. entry-again _ (bytes-drop (entrySize * i) entrySize (omega arith) (bytes-drop entriesStart entriesSize (omega arith) whole)) (lives bytes e i h)) in
-    (λ i. pads i ++ entries i) ∙ sym (take-add entriesStart entriesSize bytes) ∙ take-all imageSize bytes (omega (arith, image-whole bytes e))
+    ∙ parts-cut entrySize 256 entryBytes noEntry readEntry (drop entriesAt bytes)
+    (λ i h. entry-again _ (bytes-drop (entrySize * i) entrySize (omega arith) (bytes-drop entriesAt entriesSize (omega arith) whole)) (lives bytes e i h)) in
+    (λ i. pads i ++ entries i) ∙ sym (take-add entriesAt entriesSize bytes) ∙ take-all imageSize bytes (omega (arith, image-whole bytes e))

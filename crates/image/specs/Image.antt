@@ -11,9 +11,9 @@ use Rattle.rights.specs.Rules.{rightsOf}
 use Rattle.tables.specs.declared.{Name.Name, Kind.Kind, Ticket.Ticket, Program.Program, Pad.Pad, Entry.Entry, Tables.Tables}
 use Rattle.tables.specs.declared.Kind.the-variants.{Free, Taken, Received, Child, Recall}
 use Rattle.tables.specs.Names.{nameOf, free, noEntry, noProgram, noPad}
-use Rattle.image.specs.Layout.{ticketKind, ticketNumber, ticketOwn, ticketOther, ticketFirst, ticketCount, ticketRights, ticketDock, ticketSize}
-use Rattle.image.specs.Layout.{programLast, programSize, padSize}
-use Rattle.image.specs.Layout.{entryLive, entryName, entryParent, entryFirst, entryCount, entryRights, entrySize, entriesStart, imageSize}
+use Rattle.image.specs.Layout.{ticketKindAt, ticketNumberAt, ticketOwnAt, ticketOtherAt, ticketFirstAt, ticketCountAt, ticketRightsAt, ticketDockAt, ticketSize}
+use Rattle.image.specs.Layout.{programLastAt, programSize, padSize}
+use Rattle.image.specs.Layout.{entryLiveAt, entryNameAt, entryParentAt, entryFirstAt, entryCountAt, entryRightsAt, entrySize, entriesAt, imageSize}
 use Rattle.image.specs.Numbers.{bytesOf, numberAt}
 
 -- ---- a ticket: kind, number, own, other (pad, program, number), first, count, rights, dock (pad, program, number)
@@ -27,8 +27,8 @@ kindNumber Recall = 4
 unfoldable pub kindOf : ℕ → Kind
 kindOf n = cond (eqb n 1) Taken (cond (eqb n 2) Received (cond (eqb n 3) Child (cond (eqb n 4) Recall Free)))
 
-abbrev pub nameAt : ℕ → List ℕ → Name
-nameAt at bytes = nameOf (numberAt at bytes) (numberAt (at + 2) bytes) (numberAt (at + 4) bytes)
+abbrev pub readName : ℕ → List ℕ → Name
+readName at bytes = nameOf (numberAt at bytes) (numberAt (at + 2) bytes) (numberAt (at + 4) bytes)
 
 unfoldable pub ticketNumbers : Ticket → List ℕ
 ticketNumbers k =
@@ -40,14 +40,14 @@ ticketBytes k = bytesOf (ticketNumbers k)
 
 unfoldable pub readTicket : List ℕ → Ticket
 readTicket bytes = record {
-  kind = kindOf (numberAt ticketKind bytes);
-  number = numberAt ticketNumber bytes;
-  own = numberAt ticketOwn bytes;
-  other = nameAt ticketOther bytes;
-  first = numberAt ticketFirst bytes;
-  count = numberAt ticketCount bytes;
-  rights = rightsOf (numberAt ticketRights bytes);
-  dock = nameAt ticketDock bytes;
+  kind = kindOf (numberAt ticketKindAt bytes);
+  number = numberAt ticketNumberAt bytes;
+  own = numberAt ticketOwnAt bytes;
+  other = readName ticketOtherAt bytes;
+  first = numberAt ticketFirstAt bytes;
+  count = numberAt ticketCountAt bytes;
+  rights = rightsOf (numberAt ticketRightsAt bytes);
+  dock = readName ticketDockAt bytes;
 }
 
 -- ---- a program: its eight tickets, then its last number
@@ -55,7 +55,7 @@ unfoldable pub programBytes : Program → List ℕ
 programBytes p = joined 8 (λ i. ticketBytes (getD (p .tickets) i free)) ++ bytesOf (p .last ∷ [])
 
 unfoldable pub readProgram : List ℕ → Program
-readProgram bytes = record { tickets = tabulate 8 (λ i. readTicket (drop (ticketSize * i) bytes)); last = numberAt programLast bytes }
+readProgram bytes = record { tickets = tabulate 8 (λ i. readTicket (drop (ticketSize * i) bytes)); last = numberAt programLastAt bytes }
 
 -- ---- a pad: its eight programs
 unfoldable pub padBytes : Pad → List ℕ
@@ -75,12 +75,12 @@ entryBytes e = bytesOf (entryNumbers e)
 
 unfoldable pub readEntry : List ℕ → Entry
 readEntry bytes = record {
-  live = eqb (numberAt entryLive bytes) 1;
-  name = nameAt entryName bytes;
-  parent = nameAt entryParent bytes;
-  first = numberAt entryFirst bytes;
-  count = numberAt entryCount bytes;
-  rights = rightsOf (numberAt entryRights bytes);
+  live = eqb (numberAt entryLiveAt bytes) 1;
+  name = readName entryNameAt bytes;
+  parent = readName entryParentAt bytes;
+  first = numberAt entryFirstAt bytes;
+  count = numberAt entryCountAt bytes;
+  rights = rightsOf (numberAt entryRightsAt bytes);
 }
 
 -- ---- the whole: the four pads, then the 256 places for entries
@@ -90,7 +90,7 @@ encode t = joined 4 (λ i. padBytes (getD (t .pads) i noPad)) ++ joined 256 (λ 
 unfoldable pub decode : List ℕ → Tables
 decode bytes = record {
   pads = tabulate 4 (λ i. readPad (drop (padSize * i) bytes));
-  entries = tabulate 256 (λ i. readEntry (drop (entriesStart + entrySize * i) bytes));
+  entries = tabulate 256 (λ i. readEntry (drop (entriesAt + entrySize * i) bytes));
 }
 
 -- ---- which bytes are an image: those of its length in which every kind is one of the five and every entry is live or not
@@ -99,7 +99,7 @@ abbrev pub ticketStart : ℕ → ℕ
 ticketStart place = programSize * (place / 8) + ticketSize * (place % 8)
 
 abbrev pub entryStart : ℕ → ℕ
-entryStart place = entriesStart + entrySize * place
+entryStart place = entriesAt + entrySize * place
 
 unfoldable pub kindsOk : List ℕ → Bool
 kindsOk bytes = all (λ place. leb (numberAt (ticketStart place) bytes) 4) (tabulate 256 (λ i. i))

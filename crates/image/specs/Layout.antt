@@ -3,36 +3,36 @@
 use Prim.Native.Nat.{ℕ}
 
 -- ---- a ticket
-abbrev pub ticketKind : ℕ
-ticketKind = 0
+abbrev pub ticketKindAt : ℕ
+ticketKindAt = 0
 
-abbrev pub ticketNumber : ℕ
-ticketNumber = 2
+abbrev pub ticketNumberAt : ℕ
+ticketNumberAt = 2
 
-abbrev pub ticketOwn : ℕ
-ticketOwn = 4
+abbrev pub ticketOwnAt : ℕ
+ticketOwnAt = 4
 
-abbrev pub ticketOther : ℕ
-ticketOther = 6
+abbrev pub ticketOtherAt : ℕ
+ticketOtherAt = 6
 
-abbrev pub ticketFirst : ℕ
-ticketFirst = 12
+abbrev pub ticketFirstAt : ℕ
+ticketFirstAt = 12
 
-abbrev pub ticketCount : ℕ
-ticketCount = 14
+abbrev pub ticketCountAt : ℕ
+ticketCountAt = 14
 
-abbrev pub ticketRights : ℕ
-ticketRights = 16
+abbrev pub ticketRightsAt : ℕ
+ticketRightsAt = 16
 
-abbrev pub ticketDock : ℕ
-ticketDock = 18
+abbrev pub ticketDockAt : ℕ
+ticketDockAt = 18
 
 abbrev pub ticketSize : ℕ
 ticketSize = 24
 
 -- ---- a program: its tickets, then its last number
-abbrev pub programLast : ℕ
-programLast = 192
+abbrev pub programLastAt : ℕ
+programLastAt = 192
 
 abbrev pub programSize : ℕ
 programSize = 194
@@ -42,30 +42,30 @@ abbrev pub padSize : ℕ
 padSize = 1552
 
 -- ---- an entry
-abbrev pub entryLive : ℕ
-entryLive = 0
+abbrev pub entryLiveAt : ℕ
+entryLiveAt = 0
 
-abbrev pub entryName : ℕ
-entryName = 2
+abbrev pub entryNameAt : ℕ
+entryNameAt = 2
 
-abbrev pub entryParent : ℕ
-entryParent = 8
+abbrev pub entryParentAt : ℕ
+entryParentAt = 8
 
-abbrev pub entryFirst : ℕ
-entryFirst = 14
+abbrev pub entryFirstAt : ℕ
+entryFirstAt = 14
 
-abbrev pub entryCount : ℕ
-entryCount = 16
+abbrev pub entryCountAt : ℕ
+entryCountAt = 16
 
-abbrev pub entryRights : ℕ
-entryRights = 18
+abbrev pub entryRightsAt : ℕ
+entryRightsAt = 18
 
 abbrev pub entrySize : ℕ
 entrySize = 20
 
 -- ---- the whole: the pads, then the entries
-abbrev pub entriesStart : ℕ
-entriesStart = 6208
+abbrev pub entriesAt : ℕ
+entriesAt = 6208
 
 abbrev pub entriesSize : ℕ
 entriesSize = 5120

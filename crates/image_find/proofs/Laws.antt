@@ -9,7 +9,7 @@ use Rattle.lists.proofs.PartLaws.{length-tabulate, getD-tabulate}
 use Rattle.tables.specs.declared.{Program.Program, Pad.Pad}
 use Rattle.tables.specs.Names.{free, noProgram, noPad}
 use Rattle.tables.specs.Lookup.{Sized, padAt, programAt, lastOf}
-use Rattle.image.specs.Layout.{ticketSize, programLast, programSize, padSize}
+use Rattle.image.specs.Layout.{ticketSize, programLastAt, programSize, padSize}
 use Rattle.image.specs.Numbers.{numberAt}
 use Rattle.image.specs.Image.{readTicket, readProgram, readPad, decode}
 use Rattle.image.proofs.NumberLaws.{number-drop}
@@ -33,7 +33,7 @@ module _ (bytes : List ℕ) where
   unfolding readProgram
   ticket-in part i h = getD-tabulate 8 (λ j. readTicket (drop (ticketSize * j) part)) i free h
 
-  last-in : (part : List ℕ) → readProgram part .last ≡ numberAt programLast part
+  last-in : (part : List ℕ) → readProgram part .last ≡ numberAt programLastAt part
   unfolding readProgram
   last-in part = refl
 
@@ -63,8 +63,8 @@ module _ (bytes : List ℕ) where
       last-here bytes (8 * a + b) (omega arith)
       ∙ sym (ap (λ (x : Program). x .last) (program-there a b p q) ∙ last-in (drop (programSize * (8 * a + b)) bytes) ∙ at)
     where
-      at : numberAt programLast (drop (programSize * (8 * a + b)) bytes) ≡ numberAt (lastStart (8 * a + b)) bytes
-      at = sym (number-drop programLast (drop (programSize * (8 * a + b)) bytes)) ∙ ap (numberAt 0) (drop-drop programLast (programSize * (8 * a + b)) bytes) ∙ number-drop (lastStart (8 * a + b)) bytes
+      at : numberAt programLastAt (drop (programSize * (8 * a + b)) bytes) ≡ numberAt (lastStart (8 * a + b)) bytes
+      at = sym (number-drop programLastAt (drop (programSize * (8 * a + b)) bytes)) ∙ ap (numberAt 0) (drop-drop programLastAt (programSize * (8 * a + b)) bytes) ∙ number-drop (lastStart (8 * a + b)) bytes
 
   pub flattened : Flattened (decode bytes) (ticketsIn bytes) (lastsIn bytes)
   flattened = record { long = tickets-long bytes; same = ticket-placed; lastsLong = lasts-long bytes; last = last-placed }

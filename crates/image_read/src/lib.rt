@@ -5,7 +5,7 @@ ghost use lib.ListN.{length, getD, drop};
 ghost use Rattle.image.specs.Layout.{ticketSize, programSize, entrySize, imageSize};
 ghost use Rattle.image.specs.Numbers.{numberAt};
 ghost use Rattle.tables.specs.Names.{free, noEntry};
-ghost use Rattle.image.specs.Image.{kindOf, nameAt, readTicket, readProgram, readEntry, ticketStart, entryStart};
+ghost use Rattle.image.specs.Image.{kindOf, readName, readTicket, readProgram, readEntry, ticketStart, entryStart};
 ghost use Rattle.image_read.specs.Places.{ticketsIn, lastsIn, entriesIn};
 use image::ENTRIES;
 use image::ENTRY;
@@ -48,7 +48,7 @@ fn number_at(bytes: &[u8], at: usize) -> u16
 
 fn name_at(bytes: &[u8], at: usize) -> Name
     requires { ⌜ at + 6 ≤ length (now bytes) ⌝ }
-    ensures { λ r. ⌜ r ≡ nameAt at (now (bytes .entry)) ⌝ }
+    ensures { λ r. ⌜ r ≡ readName at (now (bytes .entry)) ⌝ }
 {
     Name {
         pad: number_at(bytes, at),

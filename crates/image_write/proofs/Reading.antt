@@ -10,10 +10,10 @@ use borrow.Author.Tests.{ltb-true, ltb-false}
 use Rattle.lists.proofs.Tests.{Case, pass, fail, case}
 use Rattle.rights.specs.Rules.{rightsOf}
 use Rattle.tables.specs.Names.{nameOf}
-use Rattle.image.specs.Layout.{ticketKind, ticketNumber, ticketOwn, ticketOther, ticketFirst, ticketCount, ticketRights, ticketDock, ticketSize}
-use Rattle.image.specs.Layout.{entryLive, entryName, entryParent, entryFirst, entryCount, entryRights, entrySize}
+use Rattle.image.specs.Layout.{ticketKindAt, ticketNumberAt, ticketOwnAt, ticketOtherAt, ticketFirstAt, ticketCountAt, ticketRightsAt, ticketDockAt, ticketSize}
+use Rattle.image.specs.Layout.{entryLiveAt, entryNameAt, entryParentAt, entryFirstAt, entryCountAt, entryRightsAt, entrySize}
 use Rattle.image.specs.Numbers.{numberAt}
-use Rattle.image.specs.Image.{kindOf, nameAt, readTicket, readEntry, ticketStart, entryStart}
+use Rattle.image.specs.Image.{kindOf, readName, readTicket, readEntry, ticketStart, entryStart}
 use Rattle.image_read.specs.Places.{lastStart}
 use Rattle.image_write.proofs.Parts.{Outside}
 
@@ -26,7 +26,7 @@ module _ (x y : List ℕ) where
     pub number-same : (at : ℕ) → at + 2 ≤ n → numberAt at x ≡ numberAt at y
     number-same at h = λ i. same at (omega (arith, h)) i + 256 * same (at + 1) (omega (arith, h)) i
 
-    name-same : (at : ℕ) → at + 6 ≤ n → nameAt at x ≡ nameAt at y
+    name-same : (at : ℕ) → at + 6 ≤ n → readName at x ≡ readName at y
     name-same at h =
         λ i. nameOf (number-same at (omega (arith, h)) i) (number-same (at + 2) (omega (arith, h)) i) (number-same (at + 4) (omega (arith, h)) i)
 
@@ -36,14 +36,14 @@ module _ (x y : List ℕ) where
       let number = number-same ticketSize same in
       let name = name-same ticketSize same in
       λ i. record {
-        kind = kindOf (number ticketKind (omega arith) i);
-        number = number ticketNumber (omega arith) i;
-        own = number ticketOwn (omega arith) i;
-        other = name ticketOther (omega arith) i;
-        first = number ticketFirst (omega arith) i;
-        count = number ticketCount (omega arith) i;
-        rights = rightsOf (number ticketRights (omega arith) i);
-        dock = name ticketDock (omega arith) i;
+        kind = kindOf (number ticketKindAt (omega arith) i);
+        number = number ticketNumberAt (omega arith) i;
+        own = number ticketOwnAt (omega arith) i;
+        other = name ticketOtherAt (omega arith) i;
+        first = number ticketFirstAt (omega arith) i;
+        count = number ticketCountAt (omega arith) i;
+        rights = rightsOf (number ticketRightsAt (omega arith) i);
+        dock = name ticketDockAt (omega arith) i;
       }
 
   pub entry-same : SameFirst entrySize → readEntry x ≡ readEntry y
@@ -52,12 +52,12 @@ module _ (x y : List ℕ) where
       let number = number-same entrySize same in
       let name = name-same entrySize same in
       λ i. record {
-        live = eqb (number entryLive (omega arith) i) 1;
-        name = name entryName (omega arith) i;
-        parent = name entryParent (omega arith) i;
-        first = number entryFirst (omega arith) i;
-        count = number entryCount (omega arith) i;
-        rights = rightsOf (number entryRights (omega arith) i);
+        live = eqb (number entryLiveAt (omega arith) i) 1;
+        name = name entryNameAt (omega arith) i;
+        parent = name entryParentAt (omega arith) i;
+        first = number entryFirstAt (omega arith) i;
+        count = number entryCountAt (omega arith) i;
+        rights = rightsOf (number entryRightsAt (omega arith) i);
       }
 
 -- ---- places apart: a ticket's bytes, a last number's, an entry's

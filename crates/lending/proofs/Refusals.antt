@@ -105,12 +105,12 @@ module _ (bytes : List ℕ) (store sheet : ℕ) where
         go (fail l) = rw (eq-eqb store 16384 whole, eq-eqb sheet 64 h, l)
 
   -- what is known of buffers that are not refused
-  pub record Whole : Type 0 where
+  pub record Unrefused : Type 0 where
     pub store-long : store ≡ 16384
     pub sheet-long : sheet ≡ 64
     pub tables : tablesOk bytes ≡ true
 
-  pub not-refused : lentRefusal bytes store sheet ≡ 0 → Whole
+  pub not-refused : lentRefusal bytes store sheet ≡ 0 → Unrefused
   unfolding lentRefusal
   not-refused e =
       let fit = eqb (length bytes) imageSize && eqb store 16384 && eqb sheet 64 in

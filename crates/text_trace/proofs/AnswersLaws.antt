@@ -15,7 +15,7 @@ use Rattle.text.specs.Bytes.{bytes, space, lineEnd}
 use Rattle.text.specs.Names.{behindNames}
 use Rattle.text.specs.Reading.{inFront, cut, lines, fields, isValue, hasValues}
 use Rattle.trace_texts.specs.Line.{inputColumns, inForm, sentBy, answerLine, firstByte, otherLine}
-use Rattle.trace_texts.specs.Trace.{longestInput, traceRoom, outputNames, servedBy, answerTo, leftBy, answers, afterLines, inputOk, trace}
+use Rattle.trace_texts.specs.Trace.{longestInput, traceRoom, outputNames, servedBy, answerTo, leftByLine, answers, afterLines, inputOk, trace}
 use Rattle.text_trace.proofs.AnswerLine.{answer-short, other-short}
 
 -- ---- line by line
@@ -30,12 +30,12 @@ module _ (number : ℕ) (s : State) (line : List ℕ) where
   answer-other e = rw e
 
 module _ (s : State) (line : List ℕ) where
-  pub left-served : inForm line ≡ true → leftBy s line ≡ servedBy s line .state
-  unfolding leftBy
+  pub left-served : inForm line ≡ true → leftByLine s line ≡ servedBy s line .state
+  unfolding leftByLine
   left-served e = rw e
 
-  pub left-other : inForm line ≡ false → leftBy s line ≡ s
-  unfolding leftBy
+  pub left-other : inForm line ≡ false → leftByLine s line ≡ s
+  unfolding leftByLine
   left-other e = rw e
 
 pub answers-none : (number : ℕ) (s : State) → answers number s [] ≡ []
@@ -43,7 +43,7 @@ unfolding answers
 answers-none number s = refl
 
 pub answers-more : (number : ℕ) (s : State) (line : List ℕ) (later : List (List ℕ))
-    → answers number s (line ∷ later) ≡ answerTo number s line ++ answers (number + 1) (leftBy s line) later
+    → answers number s (line ∷ later) ≡ answerTo number s line ++ answers (number + 1) (leftByLine s line) later
 unfolding answers
 answers-more number s line later = refl
 
@@ -51,7 +51,7 @@ pub after-none : (s : State) → afterLines s [] ≡ s
 unfolding afterLines
 after-none s = refl
 
-pub after-more : (s : State) (line : List ℕ) (later : List (List ℕ)) → afterLines s (line ∷ later) ≡ afterLines (leftBy s line) later
+pub after-more : (s : State) (line : List ℕ) (later : List (List ℕ)) → afterLines s (line ∷ later) ≡ afterLines (leftByLine s line) later
 unfolding afterLines
 after-more s line later = refl
 
@@ -112,7 +112,7 @@ answers-short : (number : ℕ) (s : State) (ls : List (List ℕ)) → length (an
 unfolding span
 answers-short number s [] = rw (answers-none number s) (omega arith)
 answers-short number s (line ∷ later) =
-    let more = answers-short (number + 1) (leftBy s line) later in
+    let more = answers-short (number + 1) (leftByLine s line) later in
     rw (answers-more number s line later) (simp length-append (omega (arith, answer-within number s line)))
 
 behind-span : (ls : List (List ℕ)) (n : ℕ) → span ls ≤ n + 1 → span (behindNames ls) ≤ n

@@ -17,7 +17,7 @@ use Rattle.image.proofs.RoundTrip.{encode-decode, encode-is-image}
 use Rattle.image_find.proofs.Laws.{decoded-sized}
 use Rattle.op_serve.specs.Contract.{LeavesLent}
 use Rattle.trace_texts.specs.Line.{inForm, sentBy, answerLine, firstByte, otherLine}
-use Rattle.trace_texts.specs.Trace.{servedBy, answerTo, leftBy}
+use Rattle.trace_texts.specs.Trace.{servedBy, answerTo, leftByLine}
 use Rattle.text_trace.specs.declared.Asked.{Asked}
 use Rattle.text_trace.specs.Contract.{Reads, dockOf, Servable, LeavesDock}
 use Rattle.text_trace.proofs.AnswersLaws.{answer-served, answer-other, left-served, left-other}
@@ -30,18 +30,18 @@ same-image image small bytes ready = sym (encode-decode image small (ready .is))
 pub passes : (image bytes : List ℕ) → Servable image bytes → PassesTests (decode image)
 passes image bytes ready = record { sized = decoded-sized image; order = ready .order; noFar = ready .noFar }
 
-left-passes : (s : State) (line : List ℕ) → PassesTests (s .tables) → PassesTests (leftBy s line .tables)
+left-passes : (s : State) (line : List ℕ) → PassesTests (s .tables) → PassesTests (leftByLine s line .tables)
 unfolding enter
 left-passes s line p = go (case (inForm line))
   where
-    go : Case (inForm line) → PassesTests (leftBy s line .tables)
+    go : Case (inForm line) → PassesTests (leftByLine s line .tables)
     go (pass e) = rw (left-served s line e) (step-keeps-tests (enter s (sentBy line)) (sentBy line .request) p)
     go (fail e) = rw (left-other s line e) p
 
-pub still-ready : (image bytes line image′ bytes′ : List ℕ) → Servable image bytes → LeavesDock (leftBy (dockOf image bytes) line) image′ bytes′
+pub still-ready : (image bytes line image′ bytes′ : List ℕ) → Servable image bytes → LeavesDock (leftByLine (dockOf image bytes) line) image′ bytes′
     → length bytes′ ≡ 16384 → Servable image′ bytes′
 still-ready image bytes line image′ bytes′ ready h long =
-    let left = leftBy (dockOf image bytes) line .tables in
+    let left = leftByLine (dockOf image bytes) line .tables in
     let p : PassesTests (decode image′) =
     subst PassesTests (sym (h .decoded)) (left-passes (dockOf image bytes) line (passes image bytes ready)) in
     record { is = ap isImage (h .tables) ∙ encode-is-image left; order = p .order; noFar = p .noFar; store = long }
@@ -59,7 +59,7 @@ module _ (image bytes line : List ℕ) (number : ℕ) (ready : Servable image by
     pub other-text : answerTo number here line ≡ otherLine number
     other-text = answer-other number here line not-formed
 
-    pub other-holds : ((j : ℕ) → getD image j 0 < 256) → LeavesDock (leftBy here line) image bytes
+    pub other-holds : ((j : ℕ) → getD image j 0 < 256) → LeavesDock (leftByLine here line) image bytes
     other-holds small =
         rw (left-other here line not-formed) (record { tables = same-image image small bytes ready; decoded = refl; store = refl })
 
@@ -97,6 +97,6 @@ module _ (image bytes line : List ℕ) (number : ℕ) (ready : Servable image by
           b ∙ (λ i. cond (eqb (request-is i .op) 5 && eqb (served .answer i .result) 0) (getD (served .sheet i) 0 0) 0) in
           answer-served number here line formed ∙ λ i. answerLine number (sym (served .answer) i) (sym byte-is i)
 
-      pub served-holds : LeavesDock (leftBy here line) image′ bytes′
+      pub served-holds : LeavesDock (leftByLine here line) image′ bytes′
       served-holds =
           rw (left-served here line formed) (record { tables = served .tables; decoded = served .decoded; store = served .store })

@@ -8,7 +8,7 @@ use Rattle.machine.specs.State.{State, Outcome}
 use Rattle.machine.specs.Step.{step}
 use Rattle.machine.specs.Sequence.{Sent, enter}
 use Rattle.trace_texts.specs.Line.{inForm, sentBy, answerLine, firstByte, otherLine}
-use Rattle.trace_texts.specs.Trace.{servedBy, answerTo, leftBy, answers, afterLines}
+use Rattle.trace_texts.specs.Trace.{servedBy, answerTo, leftByLine, answers, afterLines}
 use Rattle.text_trace.proofs.AnswersLaws.{left-served, left-other}
 
 pub record SameDock (s s′ : State) : Type 0 where
@@ -38,10 +38,10 @@ module _ (s s′ : State) (same : SameDock s s′) (line : List ℕ) where
   same-answer number =
       ap (λ (o : Outcome). cond (inForm line) (answerLine number (o .answer) (firstByte (sentBy line .request) o)) (otherLine number)) same-served
 
-  same-left : SameDock (leftBy s line) (leftBy s′ line)
+  same-left : SameDock (leftByLine s line) (leftByLine s′ line)
   same-left = go (case (inForm line))
     where
-      go : Case (inForm line) → SameDock (leftBy s line) (leftBy s′ line)
+      go : Case (inForm line) → SameDock (leftByLine s line) (leftByLine s′ line)
       go (pass e) = rw (left-served s line e, left-served s′ line e) (same-of _ _ (ap (λ (o : Outcome). o .state) same-served))
       go (fail e) = rw (left-other s line e, left-other s′ line e) same
 
@@ -51,9 +51,9 @@ unfolding answers
 same-answers s s′ same [] number = refl
 same-answers s s′ same (line ∷ later) number =
     λ i. same-answer s s′ same line number i
-    ++ same-answers (leftBy s line) (leftBy s′ line) (same-left s s′ same line) later (number + 1) i
+    ++ same-answers (leftByLine s line) (leftByLine s′ line) (same-left s s′ same line) later (number + 1) i
 
 pub same-after : (s s′ : State) → SameDock s s′ → (ls : List (List ℕ)) → SameDock (afterLines s ls) (afterLines s′ ls)
 unfolding afterLines
 same-after s s′ same [] = same
-same-after s s′ same (line ∷ later) = same-after (leftBy s line) (leftBy s′ line) (same-left s s′ same line) later
+same-after s s′ same (line ∷ later) = same-after (leftByLine s line) (leftByLine s′ line) (same-left s s′ same line) later

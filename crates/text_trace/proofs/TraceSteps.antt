@@ -16,7 +16,7 @@ use Rattle.text.specs.Reading.{lines}
 use Rattle.text.specs.Appending.{Appends, Countable}
 use Rattle.text.proofs.ReadingLaws.{upTo, lines-first, lines-none}
 use Rattle.text.proofs.Appending.{append-as, append-none, append-both}
-use Rattle.trace_texts.specs.Trace.{answerTo, leftBy, answers, afterLines}
+use Rattle.trace_texts.specs.Trace.{answerTo, leftByLine, answers, afterLines}
 use Rattle.text_trace.specs.Contract.{dockOf, Servable, LinesFrom, LeavesDock}
 use Rattle.text_trace.proofs.AnswersLaws.{answers-none, answers-more, after-none, after-more}
 use Rattle.text_trace.proofs.SameDock.{SameDock, same-trans, same-sym, same-of, same-answers, same-after}
@@ -96,26 +96,26 @@ module _ (s₀ : State) (input : List ℕ) (start : ℕ) (before : List ℕ) (at
         lines-first (drop from input) (omega (arith, length-drop from input)) ∙ λ i. take (n i) (drop from input) ∷ lines (tail i)
 
     -- its answer, then those of the lines behind it, from the state that it leaves
-    pub answers-here : restOf here input from done ≡ answerTo (done + 1) here lineHere ++ restOf (leftBy here lineHere) input (from + k + 1) (done + 1)
+    pub answers-here : restOf here input from done ≡ answerTo (done + 1) here lineHere ++ restOf (leftByLine here lineHere) input (from + k + 1) (done + 1)
     answers-here = ap (answers (done + 1) here) first-here ∙ answers-more (done + 1) here lineHere (lines (drop (from + k + 1) input))
 
     pub line-bound : Countable total (answerTo (done + 1) here lineHere)
     line-bound =
-        let later = restOf (leftBy here lineHere) input (from + k + 1) (done + 1) in
+        let later = restOf (leftByLine here lineHere) input (from + k + 1) (done + 1) in
         omega (arith, g .bound, ap length answers-here ∙ length-append (answerTo (done + 1) here lineHere) later)
 
     pub next : (image′ bytes′ out′ : List ℕ) (total′ : ℕ) → Appends (answerTo (done + 1) here lineHere) out out′ total total′
-        → LeavesDock (leftBy here lineHere) image′ bytes′ → length bytes′ ≡ length bytes
+        → LeavesDock (leftByLine here lineHere) image′ bytes′ → length bytes′ ≡ length bytes
         → Going s₀ input start before at image′ bytes′ out′ (from + k + 1) (done + 1) total′
     next image′ bytes′ out′ total′ put h long =
         let text = answerTo (done + 1) here lineHere in
         let there = dockOf image′ bytes′ in
-        let same : SameDock (leftBy here lineHere) there = record { tables = sym (h .decoded); store = sym (h .store) } in
+        let same : SameDock (leftByLine here lineHere) there = record { tables = sym (h .decoded); store = sym (h .store) } in
         let behind = lines (drop (from + k + 1) input) in
         let later = restOf there input (from + k + 1) (done + 1) in
         let whole : restOf here input from done ≡ text ++ later
-        = answers-here ∙ ap (λ (l : List ℕ). text ++ l) (same-answers (leftBy here lineHere) there same behind (done + 1 + 1)) in
-        let after-here : endOf here input from ≡ afterLines (leftBy here lineHere) behind
+        = answers-here ∙ ap (λ (l : List ℕ). text ++ l) (same-answers (leftByLine here lineHere) there same behind (done + 1 + 1)) in
+        let after-here : endOf here input from ≡ afterLines (leftByLine here lineHere) behind
         = ap (afterLines here) first-here ∙ after-more here lineHere behind in
         let whole-long : length (restOf here input from done) ≡ length text + length later = ap length whole ∙ length-append text later in
         record {
@@ -130,5 +130,5 @@ module _ (s₀ : State) (input : List ℕ) (start : ℕ) (before : List ℕ) (at
               (append-as (text ++ later) (restOf here input from done) out after total r (sym whole)
               (append-both text later out out′ after total total′ r put a));
           left = same-trans (endOf there input (from + k + 1)) (endOf here input from) (endOf s₀ input start)
-              (same-sym _ _ (same-trans _ _ _ (same-of _ _ after-here) (same-after (leftBy here lineHere) there same behind))) (g .left);
+              (same-sym _ _ (same-trans _ _ _ (same-of _ _ after-here) (same-after (leftByLine here lineHere) there same behind))) (g .left);
         }

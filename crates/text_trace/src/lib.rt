@@ -125,7 +125,7 @@ fn serve_line(
 ) -> usize
     requires { ⌜ Servable (now tables) (now store) × Countable at (spec.answerTo number (dockOf (now tables) (now store)) (now line)) ⌝ }
     ensures { λ r. ⌜ Appends (spec.answerTo number (dockOf (now (tables .entry)) (now (store .entry))) (now (line .entry))) (now (out .entry)) (now (out .exit)) at r ⌝ }
-    ensures { λ _. ⌜ LeavesDock (spec.leftBy (dockOf (now (tables .entry)) (now (store .entry))) (now (line .entry))) (now (tables .exit)) (now (store .exit)) ⌝ }
+    ensures { λ _. ⌜ LeavesDock (spec.leftByLine (dockOf (now (tables .entry)) (now (store .entry))) (now (line .entry))) (now (tables .exit)) (now (store .exit)) ⌝ }
 {
     let a = read_line(line);
     if !a.formed {

@@ -43,19 +43,19 @@ answerTo number s line =
     cond (inForm line) served other
 
 -- the state that it leaves; a line of another form "changes nothing"
-unfoldable pub leftBy : State → List ℕ → State
-leftBy s line = cond (inForm line) (servedBy s line .state) s
+unfoldable pub leftByLine : State → List ℕ → State
+leftByLine s line = cond (inForm line) (servedBy s line .state) s
 
 -- ---- lines, from the state s on
 -- their answers, numbered from `number` on
 unfoldable pub answers : ℕ → State → List (List ℕ) → List ℕ
 answers number s [] = []
-answers number s (line ∷ later) = answerTo number s line ++ answers (number + 1) (leftBy s line) later
+answers number s (line ∷ later) = answerTo number s line ++ answers (number + 1) (leftByLine s line) later
 
 -- the state that they leave
 unfoldable pub afterLines : State → List (List ℕ) → State
 afterLines s [] = s
-afterLines s (line ∷ later) = afterLines (leftBy s line) later
+afterLines s (line ∷ later) = afterLines (leftByLine s line) later
 
 -- ---- the whole
 -- short enough, and "The first line must equal, byte for byte, the names below"

@@ -5,6 +5,7 @@ use mathlib.Core.Path.{sym}
 use lib.ListN.{length, length-replicate}
 use borrow.Author.Needs.{needs}
 use borrow.Author.Tests.{not-true, not-false}
+use Rattle.image.specs.Layout.{imageSize}
 use Rattle.text.specs.Bytes.{bytes}
 use Rattle.text.proofs.Appending.{append-as}
 use Rattle.trace_texts.specs.Trace.{longestInput, inputNames, outputNames}
@@ -70,7 +71,7 @@ add-start c =
     omega (arith, end-inside (c13 .args .input .now) _ (c3 .first-line .ensures))
 
 slice-aggregate-serve-lines : tie.Need-slice-aggregate-serve-lines
-slice-aggregate-serve-lines c = sym (length-replicate {A = ℕ} 11328 0)
+slice-aggregate-serve-lines c = sym (length-replicate {A = ℕ} imageSize 0)
 
 slice-aggregate-serve-lines-2 : tie.Need-slice-aggregate-serve-lines-2
 slice-aggregate-serve-lines-2 c = sym (length-replicate {A = ℕ} 16384 0)
