@@ -67,7 +67,9 @@ fn stored_traces() {
             let got = trace(&fs::read(&path).expect("the input"));
             let wanted = fs::read_to_string(path.with_extension("out")).expect("the output");
             let differs = got.lines().zip(wanted.lines()).find(|(got, wanted)| got != wanted);
-            assert!(got == wanted, "{}: first (got, wanted): {differs:?}", path.display());
+            // One stored trace is wrong, so that whoever compares is seen to compare.
+            let as_stored = !path.ends_with("must-differ.in");
+            assert_eq!(got == wanted, as_stored, "{}: first (got, wanted): {differs:?}", path.display());
             played += 1;
         }
     }
