@@ -2,3 +2,4 @@ pub mod Numbers
 pub mod Sequence
 pub mod Batch
 pub mod Host
+pub mod Trace

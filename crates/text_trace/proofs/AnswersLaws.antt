@@ -15,7 +15,7 @@ use Rattle.text.specs.Bytes.{bytes, space, lineEnd}
 use Rattle.text.specs.Names.{behindNames}
 use Rattle.text.specs.Reading.{inFront, cut, lines, fields, isValue, hasValues}
 use Rattle.trace_texts.specs.Line.{inputColumns, inForm, sentBy, answerLine, firstByte, otherLine}
-use Rattle.trace_texts.specs.Trace.{longestInput, traceRoom, outputNames, servedBy, answerTo, leftByLine, answers, afterLines, inputOk, trace}
+use Rattle.trace_texts.specs.Trace.{longestInput, traceRoom, outputNames, servedBy, answerTo, leftByLine, answers, afterLines, inputOk, traceFrom, trace}
 use Rattle.text_trace.proofs.AnswerLine.{answer-short, other-short}
 
 -- ---- line by line
@@ -133,7 +133,7 @@ answers-fit input e =
     omega (arith, answers-short 1 emptyDock (behindNames (lines input)))
 
 pub trace-short : (input : List ℕ) → length (trace input) ≤ traceRoom
-unfolding trace
+unfolding traceFrom
 trace-short input = go (case (inputOk input))
   where
     go : Case (inputOk input)

@@ -29,7 +29,7 @@ use Rattle.text.proofs.NamesLaws.{lines-behind}
 use Rattle.text.proofs.WritingLaws.{writes-fits}
 use Rattle.text.proofs.Appending.{append-as, append-both}
 use Rattle.trace_texts.specs.Line.{otherLine}
-use Rattle.trace_texts.specs.Trace.{longestInput, traceRoom, inputNames, outputNames, answers, inputOk, trace}
+use Rattle.trace_texts.specs.Trace.{longestInput, traceRoom, inputNames, outputNames, answers, inputOk, traceFrom, trace}
 use Rattle.text_trace.specs.Contract.{dockOf, Servable}
 use Rattle.text_trace.proofs.AnswerLine.{other-short}
 use Rattle.text_trace.proofs.AnswersLaws.{answers-fit, trace-short}
@@ -95,14 +95,14 @@ module _ (out middle : List ℕ) (at : ℕ) (names : Appends namesLine out middl
 
   module _ (input after : List ℕ) (answer : ℕ) where
     pub refused-trace : inputOk input ≡ false → Appends (otherLine 0) middle after at answer → Appends (trace input) out after 0 answer
-    unfolding trace
+    unfolding traceFrom
     refused-trace e put =
         rw e (append-as _ _ out after 0 answer (append-snoc outputNames lineEnd (otherLine 0))
         (append-both namesLine (otherLine 0) out middle after 0 at answer names put))
 
     pub served-trace : inputOk input ≡ true → Appends (answers 1 emptyDock (behindNames (lines input))) middle after at answer
         → Appends (trace input) out after 0 answer
-    unfolding trace
+    unfolding traceFrom
     served-trace e put =
         let served = answers 1 emptyDock (behindNames (lines input)) in
         rw e (append-as _ _ out after 0 answer (append-snoc outputNames lineEnd served)

@@ -30,7 +30,7 @@ use Rattle.text.specs.Reading.{inFront, cut, lines, fields, isDigit, numberFrom
 use Rattle.text.specs.Names.{named, behindNames}
 use Rattle.text.specs.Writing.{digits, places, decimal, behind, valuesLine}
 use Rattle.trace_texts.specs.Line.{fillOk, inForm, sentBy, answerLine, firstByte, otherLine}
-use Rattle.trace_texts.specs.Trace.{inputNames, outputNames, answerTo, leftByLine, answers, inputOk, trace}
+use Rattle.trace_texts.specs.Trace.{inputNames, outputNames, answerTo, leftByLine, answers, inputOk, traceFrom, trace}
 
 -- lines, each ended by byte 10
 unfoldable pub ended : List String → List ℕ
@@ -159,7 +159,7 @@ unfolding implies between firstIndex all some noTwo allAt someAt mapAt least wit
     ownRefusal requestRefusal lengthsOk refusal afterOwn dropHead outcome step emptied emptyDock
     bytes sameBytes inFront cut lines fields isDigit numberFrom isNumber noLeadingZero isValue hasValues valuesOf
     digits places decimal behind valuesLine enter fillOk inForm sentBy answerLine firstByte otherLine
-    inputNames outputNames answerTo leftByLine answers named behindNames inputOk trace ended m1-input m1-output forms-input forms-output refused-output names
+    inputNames outputNames answerTo leftByLine answers named behindNames inputOk traceFrom ended m1-input m1-output forms-input forms-output refused-output names
 texts = record {
   m1 = refl;
   forms = refl;

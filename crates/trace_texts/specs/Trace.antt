@@ -62,9 +62,17 @@ afterLines s (line ∷ later) = afterLines (leftByLine s line) later
 unfoldable pub inputOk : List ℕ → Bool
 inputOk input = leb (length input) longestInput && named inputNames (lines input)
 
--- "It starts from an emptied dock." "Too long an input, or wrong names: after the output's names one line `0 15 0 0 0`, and the end."
-unfoldable pub trace : List ℕ → List ℕ
-trace input =
-    let served = answers 1 emptyDock (behindNames (lines input)) in
+-- the trace from the state s: "Too long an input, or wrong names: after the output's names one line `0 15 0 0 0`, and the end."
+unfoldable pub traceFrom : State → List ℕ → List ℕ
+traceFrom s input =
+    let served = answers 1 s (behindNames (lines input)) in
     let refused = otherLine 0 in
     outputNames ++ lineEnd ∷ cond (inputOk input) served refused
+
+-- the state that it leaves
+unfoldable pub afterTrace : State → List ℕ → State
+afterTrace s input = cond (inputOk input) (afterLines s (behindNames (lines input))) s
+
+-- "It starts from an emptied dock."
+abbrev pub trace : List ℕ → List ℕ
+trace = traceFrom emptyDock
