@@ -37,6 +37,9 @@ extern "C" {
 #define DOCK_REQUEST 9    /* numbers of a request */
 #define DOCK_ANSWER 3     /* numbers of an answer */
 
+/* The version that this header belongs to: major * 10000 + minor * 100 + patch. */
+#define DOCK_VERSION 10000
+
 /* Bytes of stack that a call may take, its own frame included: measured by tests/stack.c, not proved. */
 #define DOCK_STACK 32768
 
@@ -151,6 +154,13 @@ enum dock_kind {
 #define DOCK_NAME_PROGRAM_AT 2
 #define DOCK_NAME_NUMBER_AT 4
 
+/*
+ * The version of the library, as DOCK_VERSION is of the header. A host compares
+ * dock_version() / 10000 with DOCK_VERSION / 10000: another major number means that lengths or
+ * meanings changed.
+ */
+uint32_t dock_version(void);
+
 /* The length of the tables, DOCK_TABLES: for a host that does not compile this header. */
 size_t dock_tables_length(void);
 
@@ -197,7 +207,7 @@ uint16_t dock_check(const uint8_t *tables, size_t tables_length,
 /* DOCK_LENGTH, DOCK_NOT_IN_ORDER, or DOCK_ACCEPTED for tables in order. Changes nothing. */
 uint16_t dock_in_order(const uint8_t *tables, size_t tables_length);
 
-/* The rest is convenience over the six functions above, and no part of the library. */
+/* The rest is convenience over the functions above, and no part of the library. */
 
 /* A dock: what a host keeps. */
 struct dock {

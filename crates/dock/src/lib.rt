@@ -4,10 +4,22 @@ ghost use mathlib.Core.Path.{_≡_};
 ghost use Rattle.image.specs.Layout.{imageSize};
 ghost use Rattle.lending.specs.Batch.{buffersOf, Leaves};
 ghost use Rattle.lending.specs.Host.{emptyImage, EmptiesImage, stepImage, Steps, orderOf, checkImage};
+ghost use Rattle.dock.specs.Version.{version};
 use image::IMAGE;
 use op_form::ANSWER;
 use op_form::REQUEST;
 use tables::Name;
+
+// The boundary's version: major * 10000 + minor * 100 + patch.
+pub const VERSION: u32 = 10000;
+
+// A host compares its major number with that of the header that it was compiled with.
+#[no_mangle]
+pub extern "C" fn dock_version() -> u32
+    ensures { λ r. ⌜ r ≡ version ⌝ }
+{
+    VERSION
+}
 
 // The length that the tables' image has.
 #[no_mangle]
