@@ -1,0 +1,4 @@
+# every stored trace, answered as the trace program answers it
+for text in ../../crates/test_cases/data/*.in; do
+    dock trace <"$text" | cmp - "${text%.in}.out" && echo "${text##*/} $?"
+done
