@@ -14,15 +14,25 @@ impl Ward {
     fn ask(&mut self, request: Request, fill: u8) -> Answer {
         let mut sheet = [fill; SHEET];
         let answer = self.dock.ask(&request, &mut sheet);
-        let byte = if request.op == READ && answer.accepted() { sheet[0] } else { 0 };
+        let byte = if request.op == READ && answer.accepted() {
+            sheet[0]
+        } else {
+            0
+        };
         self.line += 1;
-        println!("{} {} {} {} {byte}", self.line, answer.result, answer.ticket, answer.recipient);
+        println!(
+            "{} {} {} {} {byte}",
+            self.line, answer.result, answer.ticket, answer.recipient
+        );
         answer
     }
 }
 
 fn main() {
-    let mut ward = Ward { dock: Dock::new(), line: 0 };
+    let mut ward = Ward {
+        dock: Dock::new(),
+        line: 0,
+    };
     println!("line result ticket recipient byte");
 
     // Program 0 of pad 0 takes four sheets and writes the first one.
