@@ -1,8 +1,9 @@
 /*
  * The dock's ink store and the tickets to it: the C boundary of the proved library.
  *
- * Build it with `rt staticlib dock` and link target/staticlib/libdock.a. "Document 01" is the paper
- * of requirements that the numbers and the words below come from.
+ * Build it with `rt staticlib dock` and link target/staticlib/libdock.a; where it is installed by
+ * `make install`, the flags come from pkg-config. "Document 01" is the paper of requirements that the
+ * numbers and the words below come from.
  *
  * What the caller guarantees, in every call:
  *   - a pointer is not null and is valid for its length, also where the length is 0;
@@ -10,15 +11,23 @@
  *   - pointers to uint16_t are aligned;
  *   - the buffers of a call do not overlap;
  *   - one call at a time on the same buffers. Calls on other buffers may run beside it;
+ *   - DOCK_STACK bytes of stack are left. That number is measured, not proved, and the library does
+ *     not notice a stack that is too small;
+ *   - a dock is lent whole, tables and store together, and left alone between calls: a host that
+ *     changes them begins a new sequence of requests;
  *   - pad and program of a request are those of its true sender. The library cannot know who asks.
  *
  * What the library guarantees: it keeps nothing between calls and allocates nothing. Tables, store
- * and sheets belong to the host. A call needs at most DOCK_STACK bytes of stack. Any bytes may be
- * handed in as tables: those that are none, or are not in order, are refused.
+ * and sheets belong to the host. Any bytes may be handed in as tables: those that are none, or are
+ * not in order, are refused.
  *
  * Any thread of the host may call. Programs on the pads should not: whoever can write to the tables
- * can make tickets. Between two requests the tables and the store stay as the last call left them;
- * a host that changes them begins a new sequence of requests.
+ * can make tickets.
+ *
+ * Tables and store change in place. A call that does not run to its end (a loss of power, a signal
+ * handler that does not return, a thread that is stopped) leaves them half changed. A host that must
+ * survive this keeps a copy of both from before the call, and goes back to both. dock_in_order refuses
+ * many half changed tables, not all; the store is in no test.
  */
 #ifndef DOCK_H
 #define DOCK_H
@@ -87,7 +96,9 @@ enum dock_result {
     DOCK_NO_RUN = 11,       /* the store has no run of so many free sheets */
     DOCK_NO_ENTRY = 12,     /* the dock has no entry of the ticket's dock name: it was recalled */
     DOCK_LENGTH = 13,       /* a buffer has another length */
-    DOCK_NOT_IN_ORDER = 14  /* the bytes are no tables, or the tables are not in order */
+    DOCK_NOT_IN_ORDER = 14, /* the bytes are no tables, or the tables are not in order */
+    DOCK_OTHER_FORM = 15,   /* only in traces: a line or text of another form */
+    DOCK_TOO_SHORT = 17     /* the output is too short */
 };
 
 /* Kinds of ticket, as the image has them. */
@@ -177,6 +188,11 @@ uint16_t dock_empty(uint8_t *tables, size_t tables_length, uint8_t *store, size_
  * the ticket's first sheet. An answer is result, the asker's new number, the recipient's new number,
  * 0 where there is none. The result is also what the function returns.
  * DOCK_LENGTH or DOCK_NOT_IN_ORDER: nothing is written, nor is the answer.
+ *
+ * From an emptied dock every request leaves tables in order, and DOCK_NOT_IN_ORDER never comes. Of
+ * tables that a host made itself, though they are in order, a recall can leave some that are not,
+ * since T6 as written lets a recall of one pad name a live child of another pad. Every later call
+ * then answers DOCK_NOT_IN_ORDER.
  */
 uint16_t dock_step(uint8_t *tables, size_t tables_length, uint8_t *store, size_t store_length,
                    uint8_t *sheet, size_t sheet_length,
@@ -225,6 +241,10 @@ struct dock_answer {
     uint16_t result, ticket, recipient;
 };
 
+/* Without padding they are their numbers in a row, and are lent as they lie. */
+typedef char dock_request_has_no_padding[sizeof(struct dock_request) == DOCK_REQUEST * sizeof(uint16_t) ? 1 : -1];
+typedef char dock_answer_has_no_padding[sizeof(struct dock_answer) == DOCK_ANSWER * sizeof(uint16_t) ? 1 : -1];
+
 /* Empties a dock. Each dock starts with this. */
 static inline void dock_start(struct dock *dock)
 {
@@ -238,25 +258,47 @@ static inline void dock_start(struct dock *dock)
 static inline struct dock_answer dock_ask(struct dock *dock, struct dock_request request,
                                           uint8_t sheet[DOCK_SHEET])
 {
-    /* Copied, number by number: a struct is not promised to lie in memory as an array does. */
-    uint16_t asked[DOCK_REQUEST];
-    uint16_t told[DOCK_ANSWER] = {0, 0, 0};
-    struct dock_answer answer;
-    asked[0] = request.pad;
-    asked[1] = request.program;
-    asked[2] = request.op;
-    asked[3] = request.ticket;
-    asked[4] = request.topad;
-    asked[5] = request.toprogram;
-    asked[6] = request.first;
-    asked[7] = request.count;
-    asked[8] = request.rights;
-    /* The returned number, not told[0]: on 13 and 14 nothing is written to told. */
+    struct dock_answer answer = {0, 0, 0};
+    /* The returned number is the result also where the library writes no answer. */
     answer.result = dock_step(dock->tables, DOCK_TABLES, dock->store, DOCK_STORE, sheet, DOCK_SHEET,
-                              asked, DOCK_REQUEST, told, DOCK_ANSWER);
-    answer.ticket = told[1];
-    answer.recipient = told[2];
+                              (const uint16_t *)&request, DOCK_REQUEST, (uint16_t *)&answer, DOCK_ANSWER);
     return answer;
+}
+
+/*
+ * Serves n requests, one after the other, each with a sheet buffer and an answer of its own: dock_serve
+ * for structs. DOCK_ACCEPTED, or DOCK_NOT_IN_ORDER, and then no answer is written.
+ */
+static inline uint16_t dock_ask_all(struct dock *dock, const struct dock_request *requests,
+                                    uint8_t (*sheets)[DOCK_SHEET], struct dock_answer *answers, size_t n)
+{
+    return dock_serve(dock->tables, DOCK_TABLES, dock->store, DOCK_STORE, (uint8_t *)sheets, DOCK_SHEET * n,
+                      (const uint16_t *)requests, DOCK_REQUEST * n, (uint16_t *)answers, DOCK_ANSWER * n);
+}
+
+/* A result in words. */
+static inline const char *dock_result_name(uint16_t result)
+{
+    switch (result) {
+    case DOCK_ACCEPTED: return "accepted";
+    case DOCK_NO_PROGRAM: return "no such pad or program";
+    case DOCK_NO_OPERATION: return "no such operation";
+    case DOCK_FIELD: return "a field out of range, or an unused one not 0";
+    case DOCK_NO_TICKET: return "no live ticket of that number";
+    case DOCK_WRONG_KIND: return "the wrong kind of ticket";
+    case DOCK_BEYOND: return "beyond the ticket's sheets";
+    case DOCK_RIGHT_LACKING: return "a right is lacking";
+    case DOCK_TO_ONESELF: return "the recipient is the asker";
+    case DOCK_NO_PLACE: return "no free place for a ticket";
+    case DOCK_NO_NUMBER: return "no number left";
+    case DOCK_NO_RUN: return "no run of so many free sheets";
+    case DOCK_NO_ENTRY: return "the dock has no entry for the ticket";
+    case DOCK_LENGTH: return "a buffer has another length";
+    case DOCK_NOT_IN_ORDER: return "the tables are not in order";
+    case DOCK_OTHER_FORM: return "a line or text of another form";
+    case DOCK_TOO_SHORT: return "the output is too short";
+    default: return "no such result";
+    }
 }
 
 #ifdef __cplusplus

@@ -623,6 +623,30 @@ static void refused_tables(void)
     end();
 }
 
+/* Every result has words of its own; no other number has any. */
+static void names(void)
+{
+    static const char none[] = "no such result";
+    const char *found[DOCK_TOO_SHORT + 1];
+    unsigned results = 0, i, number;
+
+    begin("names");
+    for (number = 0; number <= UINT16_MAX; number++) {
+        const char *name = dock_result_name((uint16_t)number);
+        if (strcmp(name, none) == 0)
+            continue;
+        HOLDS(number <= DOCK_OTHER_FORM || number == DOCK_TOO_SHORT);
+        HOLDS(name[0] != 0);
+        for (i = 0; i < results; i++)
+            HOLDS(strcmp(name, found[i]) != 0);
+        found[results++] = name;
+    }
+    EQUAL(results, DOCK_OTHER_FORM + 2); /* 0 to 15, and 17 */
+    EQUAL(strcmp(dock_result_name(DOCK_ACCEPTED), "accepted"), 0);
+    EQUAL(strcmp(dock_result_name(DOCK_NO_ENTRY), "the dock has no entry for the ticket"), 0);
+    end();
+}
+
 /* The tickets and entries of the image. */
 
 static void is_grant(int line, struct who who, unsigned number, unsigned kind, unsigned first, unsigned count,
@@ -795,7 +819,7 @@ static const uint16_t ward[WARD][DOCK_REQUEST + 1] = {
     {2, 3, 1, 0, 0, 0, 0, 4, 7, 0}, {2, 3, 5, 1, 0, 0, 0, 0, 0, 0},
 };
 
-/* dock_serve does what as many dock_steps do, and so does dock_ask. */
+/* dock_serve does what as many dock_steps do, and so do dock_ask and dock_ask_all. */
 static void serving_many(void)
 {
     uint8_t *many_tables = block(DOCK_TABLES, 1), *many_store = block(DOCK_STORE, 1);
@@ -803,7 +827,10 @@ static void serving_many(void)
     uint16_t *requests = block(WARD * DOCK_REQUEST * sizeof *requests, 0);
     uint16_t *answers = block(WARD * DOCK_ANSWER * sizeof *answers, 1);
     uint16_t *many_answers = block(WARD * DOCK_ANSWER * sizeof *answers, 2);
-    struct dock *dock = block(sizeof *dock, 3);
+    struct dock *dock = block(sizeof *dock, 3), *all_at_once = block(sizeof *dock, 3);
+    struct dock_request *asked_all = block(WARD * sizeof *asked_all, 0);
+    struct dock_answer *told_all = block(WARD * sizeof *told_all, 4);
+    uint8_t(*sheets_all)[DOCK_SHEET] = block(WARD * sizeof *sheets_all, 0);
     struct dock_answer told;
     unsigned served;
     size_t i;
@@ -812,6 +839,8 @@ static void serving_many(void)
     for (i = 0; i < WARD; i++) {
         memcpy(requests + DOCK_REQUEST * i, ward[i], DOCK_REQUEST * sizeof *requests);
         memset(sheets + DOCK_SHEET * i, ward[i][DOCK_REQUEST], DOCK_SHEET);
+        memset(sheets_all[i], ward[i][DOCK_REQUEST], DOCK_SHEET);
+        asked_all[i] = request_of(ward[i]);
     }
     many_sheets = copy(sheets, WARD * DOCK_SHEET);
     start();
@@ -819,6 +848,8 @@ static void serving_many(void)
     served = dock_serve(many_tables, DOCK_TABLES, many_store, DOCK_STORE, many_sheets, WARD * DOCK_SHEET, requests,
                         WARD * DOCK_REQUEST, many_answers, WARD * DOCK_ANSWER);
     EQUAL(served, DOCK_ACCEPTED);
+    dock_start(all_at_once);
+    EQUAL(dock_ask_all(all_at_once, asked_all, sheets_all, told_all, WARD), DOCK_ACCEPTED);
     dock_start(dock);
     for (i = 0; i < WARD; i++) {
         const uint16_t *r = ward[i];
@@ -835,7 +866,9 @@ static void serving_many(void)
         memcpy(sheets + DOCK_SHEET * i, sheet, DOCK_SHEET);
         memcpy(one, answer, DOCK_ANSWER * sizeof *answer);
         HOLDS(told.result == one[0] && told.ticket == one[1] && told.recipient == one[2]);
+        HOLDS(memcmp(&told, &told_all[i], sizeof told) == 0);
         HOLDS(memcmp(asked_sheet, sheet, DOCK_SHEET) == 0);
+        HOLDS(memcmp(sheets_all[i], sheet, DOCK_SHEET) == 0);
         free(asked_sheet);
     }
     HOLDS(memcmp(tables, many_tables, DOCK_TABLES) == 0);
@@ -844,6 +877,9 @@ static void serving_many(void)
     HOLDS(memcmp(answers, many_answers, WARD * DOCK_ANSWER * sizeof *answers) == 0);
     HOLDS(memcmp(tables, dock->tables, DOCK_TABLES) == 0);
     HOLDS(memcmp(store, dock->store, DOCK_STORE) == 0);
+    HOLDS(memcmp(tables, all_at_once->tables, DOCK_TABLES) == 0);
+    HOLDS(memcmp(store, all_at_once->store, DOCK_STORE) == 0);
+    EQUAL(dock_ask_all(all_at_once, asked_all, sheets_all, told_all, 0), DOCK_ACCEPTED);
     served = dock_serve(many_tables, DOCK_TABLES, many_store, DOCK_STORE, many_sheets, 0, requests, 0, many_answers, 0);
     EQUAL(served, DOCK_ACCEPTED); /* no requests */
     HOLDS(memcmp(tables, many_tables, DOCK_TABLES) == 0);
@@ -853,6 +889,7 @@ static void serving_many(void)
     dock->tables[DOCK_TICKET_KIND_AT] = DOCK_KIND_RECALL + 1;
     told = dock_ask(dock, take(capture, 1, ALL), sheet);
     HOLDS(told.result == DOCK_NOT_IN_ORDER && told.ticket == 0 && told.recipient == 0);
+    EQUAL(dock_ask_all(dock, asked_all, sheets_all, told_all, WARD), DOCK_NOT_IN_ORDER);
     end();
     free(many_tables);
     free(many_store);
@@ -862,6 +899,10 @@ static void serving_many(void)
     free(answers);
     free(many_answers);
     free(dock);
+    free(all_at_once);
+    free(asked_all);
+    free(told_all);
+    free(sheets_all);
 }
 
 int main(void)
@@ -881,6 +922,7 @@ int main(void)
     image_read();
     image_written();
     serving_many();
+    names();
     printf("constants: %u checks passed\n", passed);
     free(tables);
     free(store);

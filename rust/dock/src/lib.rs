@@ -1,7 +1,12 @@
 //! The dock's proved library, as a Rust host uses it.
 //!
-//! `Dock` holds the tables and the store and serves requests; `raw` are the same calls over slices of any
-//! length, which the library answers with 13 where a length is wrong.
+//! `Dock` holds the tables and the store and serves requests; `raw` are the library's calls over slices of
+//! any length, which are answered with 13 where a length is wrong. include/dock.h, at its top, says what a
+//! host guarantees and what a call that does not run to its end leaves behind.
+
+mod refusal;
+
+pub use refusal::Refusal;
 
 /// Bytes of the tables' image.
 pub const TABLES: usize = 11_328;
@@ -56,38 +61,6 @@ pub mod rights {
     pub const WRITE: u16 = 2;
     pub const PASS_ON: u16 = 4;
     pub const ALL: u16 = READ | WRITE | PASS_ON;
-}
-
-/// Results other than 0.
-pub mod refusal {
-    /// Pad above 3 or program above 7.
-    pub const NO_PROGRAM: u16 = 1;
-    /// Operation outside 1 to 6.
-    pub const NO_OPERATION: u16 = 2;
-    /// A used field is out of range, or an unused one is not 0.
-    pub const FIELD: u16 = 3;
-    /// The asker has no live ticket of that number.
-    pub const NO_TICKET: u16 = 4;
-    /// The operation is not for this kind of ticket.
-    pub const WRONG_KIND: u16 = 5;
-    /// Sheets beyond the ticket's.
-    pub const BEYOND: u16 = 6;
-    /// The ticket lacks a right.
-    pub const RIGHT_LACKING: u16 = 7;
-    /// A pass to the asker itself.
-    pub const TO_ONESELF: u16 = 8;
-    /// Asker or recipient has no free place.
-    pub const NO_PLACE: u16 = 9;
-    /// Asker's or recipient's numbers are spent.
-    pub const NO_NUMBER: u16 = 10;
-    /// No run of sheets is free that is long enough.
-    pub const NO_RUN: u16 = 11;
-    /// The dock has no entry of that name.
-    pub const NO_ENTRY: u16 = 12;
-    /// A buffer has another length.
-    pub const LENGTH: u16 = 13;
-    /// The tables are not in order.
-    pub const NOT_IN_ORDER: u16 = 14;
 }
 
 /// A request's nine numbers, in the library's order.
@@ -148,6 +121,17 @@ pub struct Answer {
     pub recipient: u16,
 }
 
+impl Answer {
+    pub fn accepted(&self) -> bool {
+        self.result == 0
+    }
+
+    /// Why the request was refused; nothing where it was accepted.
+    pub fn refusal(&self) -> Option<Refusal> {
+        Refusal::from_number(self.result)
+    }
+}
+
 /// Tables and store. A host may keep and restore them; tables that it changed itself may be out of order,
 /// and then every request is refused with 14.
 #[derive(Clone)]
@@ -167,12 +151,17 @@ impl Dock {
     pub fn new() -> Self {
         assert_eq!(raw::tables_length(), TABLES, "the library has tables of another length");
         let mut dock = Dock { tables: Box::new([0; TABLES]), store: Box::new([0; STORE]) };
-        raw::empty(&mut dock.tables[..], &mut dock.store[..]);
+        dock.start();
         dock
     }
 
+    /// Empties the dock.
+    pub fn start(&mut self) {
+        raw::empty(&mut self.tables[..], &mut self.store[..]);
+    }
+
     /// Serves one request. A read fills the sheet, a write takes its bytes from there.
-    pub fn step(&mut self, request: &Request, sheet: &mut [u8; SHEET]) -> Answer {
+    pub fn ask(&mut self, request: &Request, sheet: &mut [u8; SHEET]) -> Answer {
         let mut answer = Answer::default();
         // On 13 and 14 the library writes no answer; its result is then the whole of it.
         answer.result = raw::step(
@@ -185,27 +174,33 @@ impl Dock {
         answer
     }
 
-    /// Serves requests one after the other, each with its own sheet and answer. The result is 0; or 13 where
-    /// the three lengths differ, or 14, and then nothing was served and no answer written.
-    pub fn serve(&mut self, requests: &[Request], sheets: &mut [[u8; SHEET]], answers: &mut [Answer]) -> u16 {
-        raw::serve(
+    /// Serves requests one after the other, each with its own sheet and answer. Refused as a whole where the
+    /// three lengths differ, or where the tables are not in order: then nothing was served and no answer
+    /// written.
+    pub fn ask_all(
+        &mut self,
+        requests: &[Request],
+        sheets: &mut [[u8; SHEET]],
+        answers: &mut [Answer],
+    ) -> Result<(), Refusal> {
+        Refusal::of_result(raw::serve(
             &mut self.tables[..],
             &mut self.store[..],
             sheets.as_flattened_mut(),
             ffi::requests(requests),
             ffi::answers(answers),
-        )
+        ))
     }
 
     /// The dock's own check: whether the entry named (pad, program, number) has this sheet of the store with
     /// this right, read or write.
-    pub fn check(&self, name: (u16, u16, u16), sheet: u16, right: u16) -> u16 {
-        raw::check(&self.tables[..], name, sheet, right)
+    pub fn check(&self, name: (u16, u16, u16), sheet: u16, right: u16) -> Result<(), Refusal> {
+        Refusal::of_result(raw::check(&self.tables[..], name, sheet, right))
     }
 
-    /// 0 where the tables are in order, else 14.
-    pub fn in_order(&self) -> u16 {
-        raw::in_order(&self.tables[..])
+    /// Whether the tables are in order: else `Refusal::NotInOrder`.
+    pub fn in_order(&self) -> Result<(), Refusal> {
+        Refusal::of_result(raw::in_order(&self.tables[..]))
     }
 }
 

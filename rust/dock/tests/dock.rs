@@ -1,6 +1,6 @@
 //! The binding's own parts: batches through structs, and results that write no answer.
 
-use dock::{refusal, rights, Answer, Dock, Request, SHEET};
+use dock::{rights, Answer, Dock, Refusal, Request, SHEET};
 
 #[test]
 fn a_batch_is_its_requests_one_by_one() {
@@ -19,31 +19,36 @@ fn a_batch_is_its_requests_one_by_one() {
     let single: Vec<Answer> = requests
         .iter()
         .zip(&mut single_sheets)
-        .map(|(request, sheet)| one_by_one.step(request, sheet))
+        .map(|(request, sheet)| one_by_one.ask(request, sheet))
         .collect();
-    let results: Vec<u16> = single.iter().map(|answer| answer.result).collect();
-    assert_eq!(results, [0, 0, 0, 0, refusal::RIGHT_LACKING, 0, refusal::NO_ENTRY, 0]);
+    let refused: Vec<(usize, Refusal)> =
+        single.iter().enumerate().filter_map(|(at, answer)| Some((at, answer.refusal()?))).collect();
+    assert_eq!(refused, [(4, Refusal::RightLacking), (6, Refusal::NoEntry)]);
     assert_eq!(single[2], Answer { result: 0, ticket: 2, recipient: 1 });
 
     let (mut sheets, mut answers) = ([[9; SHEET]; 8], [Answer::default(); 8]);
-    assert_eq!(batch.serve(&requests, &mut sheets, &mut answers), 0);
+    assert_eq!(batch.ask_all(&requests, &mut sheets, &mut answers), Ok(()));
     assert_eq!((answers.to_vec(), sheets), (single, single_sheets));
     assert!(batch.tables == one_by_one.tables && batch.store == one_by_one.store);
-    assert_eq!(batch.serve(&requests, &mut sheets[1..], &mut answers), refusal::LENGTH);
+    assert!(answers.iter().all(|answer| answer.accepted() == answer.refusal().is_none()));
+    assert_eq!(batch.ask_all(&requests, &mut sheets[1..], &mut answers), Err(Refusal::Length));
 }
 
 #[test]
 fn checks_and_tables_out_of_order() {
     let (mut dock, mut sheet) = (Dock::new(), [0; SHEET]);
-    assert_eq!(dock.step(&Request::take(0, 0, 2, rights::READ), &mut sheet).ticket, 1);
-    assert_eq!(dock.check((0, 0, 1), 1, rights::READ), 0);
-    assert_eq!(dock.check((0, 0, 1), 2, rights::READ), refusal::BEYOND);
-    assert_eq!(dock.check((0, 0, 1), 1, rights::WRITE), refusal::RIGHT_LACKING);
-    assert_eq!(dock.check((0, 0, 2), 1, rights::READ), refusal::NO_ENTRY);
-    assert_eq!(dock.in_order(), 0);
+    assert_eq!(dock.ask(&Request::take(0, 0, 2, rights::READ), &mut sheet).ticket, 1);
+    assert_eq!(dock.check((0, 0, 1), 1, rights::READ), Ok(()));
+    assert_eq!(dock.check((0, 0, 1), 2, rights::READ), Err(Refusal::Beyond));
+    assert_eq!(dock.check((0, 0, 1), 1, rights::WRITE), Err(Refusal::RightLacking));
+    assert_eq!(dock.check((0, 0, 2), 1, rights::READ), Err(Refusal::NoEntry));
+    assert_eq!(dock.in_order(), Ok(()));
     // No kind of ticket is 255.
     dock.tables[0] = 255;
-    assert_eq!(dock.in_order(), refusal::NOT_IN_ORDER);
-    let answer = dock.step(&Request::read(0, 0, 1, 0), &mut sheet);
-    assert_eq!(answer, Answer { result: refusal::NOT_IN_ORDER, ticket: 0, recipient: 0 });
+    assert_eq!(dock.in_order(), Err(Refusal::NotInOrder));
+    let answer = dock.ask(&Request::read(0, 0, 1, 0), &mut sheet);
+    assert_eq!(answer, Answer { result: Refusal::NotInOrder.number(), ticket: 0, recipient: 0 });
+    dock.start();
+    assert_eq!(dock.in_order(), Ok(()));
+    assert!(dock.tables == Dock::new().tables);
 }

@@ -1,15 +1,19 @@
-//! The binding's constants are those of include/dock.h, which tests/signatures holds to the library's source.
+//! The binding's numbers and words are those of include/dock.h, which tests/signatures holds to the library's
+//! source and tests/constants.c to what the library does.
 
-use dock::{layout, refusal, rights};
+use dock::{layout, rights, Refusal};
 use std::{collections::BTreeMap, fs, path::Path};
 
-/// Every number of the header, by name: `#define DOCK_NAME N` and the enumerators `DOCK_NAME = N`.
-fn numbers_of_the_header() -> BTreeMap<String, usize> {
+fn header() -> String {
     let path = Path::new(env!("CARGO_MANIFEST_DIR")).join("../../include/dock.h");
-    let text = fs::read_to_string(path).expect("the header is there");
+    fs::read_to_string(path).expect("the header is there")
+}
+
+/// Every number of these lines, by name: `#define DOCK_NAME N` and the enumerators `DOCK_NAME = N`.
+fn numbers_of(text: &str) -> BTreeMap<String, usize> {
     let mut found = BTreeMap::new();
     for line in text.lines().map(str::trim) {
-        let line = line.strip_prefix("#define ").unwrap_or(line).replace('=', " ").replace(',', " ");
+        let line = line.strip_prefix("#define ").unwrap_or(line).replace(['=', ','], " ");
         let mut words = line.split_whitespace();
         if let (Some(name), Some(Ok(number))) = (words.next(), words.next().map(str::parse)) {
             if let Some(name) = name.strip_prefix("DOCK_") {
@@ -18,6 +22,27 @@ fn numbers_of_the_header() -> BTreeMap<String, usize> {
         }
     }
     found
+}
+
+/// The words of `dock_result_name`, by the result's name.
+fn words_of(text: &str) -> BTreeMap<String, String> {
+    let cases = text.lines().filter_map(|line| {
+        let (name, words) = line.trim().strip_prefix("case DOCK_")?.split_once(": return \"")?;
+        Some((name.to_owned(), words.strip_suffix("\";")?.to_owned()))
+    });
+    cases.collect()
+}
+
+/// A refusal's name as the header has it: `NoProgram` is `NO_PROGRAM`.
+fn name_in_c(refusal: Refusal) -> String {
+    let mut name = String::new();
+    for letter in format!("{refusal:?}").chars() {
+        if letter.is_uppercase() && !name.is_empty() {
+            name.push('_');
+        }
+        name.push(letter.to_ascii_uppercase());
+    }
+    name
 }
 
 #[test]
@@ -42,14 +67,35 @@ fn every_number_is_the_headers() {
         dock::TAKE => "TAKE", dock::PASS => "PASS", dock::RECALL => "RECALL", dock::GIVE_BACK => "GIVE_BACK",
         dock::READ => "READ", dock::WRITE => "WRITE",
         rights::READ => "RIGHT_READ", rights::WRITE => "RIGHT_WRITE", rights::PASS_ON => "RIGHT_PASS_ON",
-        refusal::NO_PROGRAM => "NO_PROGRAM", refusal::NO_OPERATION => "NO_OPERATION", refusal::FIELD => "FIELD",
-        refusal::NO_TICKET => "NO_TICKET", refusal::WRONG_KIND => "WRONG_KIND", refusal::BEYOND => "BEYOND",
-        refusal::RIGHT_LACKING => "RIGHT_LACKING", refusal::TO_ONESELF => "TO_ONESELF",
-        refusal::NO_PLACE => "NO_PLACE", refusal::NO_NUMBER => "NO_NUMBER", refusal::NO_RUN => "NO_RUN",
-        refusal::NO_ENTRY => "NO_ENTRY", refusal::LENGTH => "LENGTH", refusal::NOT_IN_ORDER => "NOT_IN_ORDER",
     ];
-    let header = numbers_of_the_header();
+    let header = numbers_of(&header());
     for (name, number) in lengths.into_iter().chain(words) {
         assert_eq!(header.get(name), Some(&number), "DOCK_{name}");
     }
+}
+
+#[test]
+fn the_refusals_are_the_headers_results() {
+    let header = header();
+    let (_, results) = header.split_once("enum dock_result {").expect("the header has the results");
+    let (results, _) = results.split_once("};").expect("and their end");
+    let mut binding: BTreeMap<String, usize> =
+        Refusal::ALL.iter().map(|&refusal| (name_in_c(refusal), refusal.number().into())).collect();
+    binding.insert("ACCEPTED".to_owned(), 0);
+    assert_eq!(binding, numbers_of(results));
+}
+
+#[test]
+fn the_words_are_the_headers() {
+    let mut binding: BTreeMap<String, String> =
+        Refusal::ALL.iter().map(|&refusal| (name_in_c(refusal), refusal.to_string())).collect();
+    binding.insert("ACCEPTED".to_owned(), "accepted".to_owned());
+    assert_eq!(binding, words_of(&header()));
+}
+
+#[test]
+fn numbers_give_their_refusals_and_no_others() {
+    let found: Vec<Refusal> = (0..=u16::MAX).filter_map(Refusal::from_number).collect();
+    assert_eq!(found, Refusal::ALL);
+    assert!(found.iter().all(|&refusal| Refusal::from_number(refusal.number()) == Some(refusal)));
 }
