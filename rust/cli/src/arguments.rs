@@ -30,7 +30,7 @@ impl Arguments {
     }
 
     /// Does FROM read standard input?
-    pub fn from_standard_input(&self) -> bool {
+    pub fn reads_standard_input(&self) -> bool {
         self.trace.as_ref().is_some_and(|path| path.as_os_str() == "-")
     }
 

@@ -14,7 +14,7 @@ pub fn trace(words: Vec<OsString>) -> Result<(), Failure> {
     if let Some(word) = arguments.rest.first() {
         return Err(Failure::usage(format!("trace reads standard input and takes no {}", word.display())));
     }
-    if arguments.from_standard_input() {
+    if arguments.reads_standard_input() {
         return Err(Failure::usage("standard input can't be both the start and the requests"));
     }
     let mut dock = arguments.dock()?;

@@ -81,7 +81,7 @@ pub fn show(words: &[OsString]) -> Result<(), Failure> {
 
 /// `dock --version`
 pub fn version() -> Result<(), Failure> {
-    let number = dock::version();
+    let number = dock::raw::version();
     let words = format!("dock {}.{}.{}\n", number / 10_000, number / 100 % 100, number % 100);
     files::write(words.as_bytes())
 }

@@ -8,6 +8,9 @@ mod refusal;
 
 pub use refusal::Refusal;
 
+/// The version that this binding was written for: major * 10000 + minor * 100 + patch.
+pub const VERSION: u32 = 10_000;
+
 /// Bytes of the tables' image.
 pub const TABLES: usize = 11_328;
 /// Bytes of the store: 256 sheets.
@@ -17,6 +20,9 @@ pub const SHEET: usize = 64;
 /// Numbers of a request and of an answer.
 pub const REQUEST: usize = 9;
 pub const ANSWER: usize = 3;
+/// Bytes that every trace fits into, and bytes of the longest input that is not refused whole.
+pub const TRACE_ROOM: usize = 983_074;
+pub const TRACE_INPUT: usize = 65_536;
 /// Bytes of stack that a call may take: measured, not proved.
 pub const STACK: usize = 32_768;
 
@@ -147,8 +153,9 @@ impl Default for Dock {
 }
 
 impl Dock {
-    /// An emptied dock.
+    /// An emptied dock. Panics where the library has another major version than this binding.
     pub fn new() -> Self {
+        assert_eq!(raw::version() / 10_000, VERSION / 10_000, "the library has another major version");
         assert_eq!(raw::tables_length(), TABLES, "the library has tables of another length");
         let mut dock = Dock { tables: Box::new([0; TABLES]), store: Box::new([0; STORE]) };
         dock.start();
@@ -198,6 +205,15 @@ impl Dock {
         Refusal::of_result(raw::check(&self.tables[..], name, sheet, right))
     }
 
+    /// Answers a text of requests, line by line, from this dock on: the trace program's texts. The length of
+    /// what was written comes back. Refused where the output is too short for the whole trace, or the tables
+    /// are not in order: then nothing changes.
+    pub fn trace(&mut self, input: &[u8], output: &mut [u8]) -> Result<usize, Refusal> {
+        let mut length = 0;
+        let result = raw::trace(&mut self.tables[..], &mut self.store[..], input, output, &mut length);
+        Refusal::of_result(result).map(|()| length)
+    }
+
     /// Whether the tables are in order: else `Refusal::NotInOrder`.
     pub fn in_order(&self) -> Result<(), Refusal> {
         Refusal::of_result(raw::in_order(&self.tables[..]))
@@ -211,6 +227,11 @@ pub mod raw {
     pub fn tables_length() -> usize {
         // SAFETY: the function reads no memory of the caller's.
         unsafe { ffi::dock_tables_length() }
+    }
+
+    pub fn version() -> u32 {
+        // SAFETY: the function reads no memory of the caller's.
+        unsafe { ffi::dock_version() }
     }
 
     pub fn empty(tables: &mut [u8], store: &mut [u8]) -> u16 {
@@ -276,6 +297,29 @@ pub mod raw {
         // SAFETY: the pointer is valid for its length, and the call only reads.
         unsafe { ffi::dock_in_order(tables.as_ptr(), tables.len()) }
     }
+
+    pub fn trace(
+        tables: &mut [u8],
+        store: &mut [u8],
+        input: &[u8],
+        output: &mut [u8],
+        length: &mut usize,
+    ) -> u16 {
+        // SAFETY: each pointer is valid for its length, and exclusive borrows overlap nothing.
+        unsafe {
+            ffi::dock_trace(
+                tables.as_mut_ptr(),
+                tables.len(),
+                store.as_mut_ptr(),
+                store.len(),
+                input.as_ptr(),
+                input.len(),
+                output.as_mut_ptr(),
+                output.len(),
+                length,
+            )
+        }
+    }
 }
 
 mod ffi {
@@ -331,5 +375,17 @@ mod ffi {
             right: u16,
         ) -> u16;
         pub fn dock_in_order(tables: *const u8, tables_length: usize) -> u16;
+        pub fn dock_trace(
+            tables: *mut u8,
+            tables_length: usize,
+            store: *mut u8,
+            store_length: usize,
+            input: *const u8,
+            input_length: usize,
+            output: *mut u8,
+            output_length: usize,
+            length: *mut usize,
+        ) -> u16;
+        pub fn dock_version() -> u32;
     }
 }

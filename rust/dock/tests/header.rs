@@ -48,11 +48,12 @@ fn name_in_c(refusal: Refusal) -> String {
 #[test]
 fn every_number_is_the_headers() {
     macro_rules! numbers {
-        ($($path:path => $name:literal),* $(,)?) => { vec![$(($name, usize::from($path))),*] };
+        ($($path:path => $name:literal),* $(,)?) => { vec![$(($name, usize::try_from($path).expect("a number that fits"))),*] };
     }
     let lengths = numbers![
         dock::TABLES => "TABLES", dock::STORE => "STORE", dock::SHEET => "SHEET", dock::REQUEST => "REQUEST",
         dock::ANSWER => "ANSWER", dock::STACK => "STACK",
+        dock::VERSION => "VERSION", dock::TRACE_ROOM => "TRACE_ROOM", dock::TRACE_INPUT => "TRACE_INPUT",
         layout::PROGRAM_SIZE => "PROGRAM_SIZE", layout::TICKET_SIZE => "TICKET_SIZE", layout::LAST_AT => "LAST_AT",
         layout::ENTRIES_AT => "ENTRIES_AT", layout::ENTRY_SIZE => "ENTRY_SIZE",
         layout::TICKET_KIND_AT => "TICKET_KIND_AT", layout::TICKET_NUMBER_AT => "TICKET_NUMBER_AT",
