@@ -7,6 +7,7 @@
 
 mod eight;
 mod order;
+pub mod trace;
 
 use eight::{Eight, SheetSet};
 
