@@ -6,7 +6,8 @@ ghost use Rattle.tables.specs.Names.{eqName, noName, free, noEntry};
 ghost use Rattle.tables.specs.Lookup.{hasNumber, isNamed};
 use rights::Rights;
 
-// A ticket is a grant (taken, received or a child) or a recall, which SADRA calls an indicator. A place with no ticket is free.
+// A ticket is a grant (taken, received or a child) or a recall. A place with no ticket is free. (SADRA, the published capability system that
+// document 01 builds on, calls a recall an indicator.)
 pub enum Kind {
     Free,
     Taken,
