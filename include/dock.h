@@ -46,7 +46,10 @@ extern "C" {
 #define DOCK_REQUEST 9    /* numbers of a request */
 #define DOCK_ANSWER 3     /* numbers of an answer */
 
-/* Bytes of stack that a call may take, its own frame included: measured by tests/stack.c, not proved. */
+/*
+ * Bytes of stack that a call may take, its own frame included. tests/stack.c measures at most 19,832, in
+ * tables that a host made with a chain of 256 entries, and 8,448 in those that requests leave; neither is proved.
+ */
 #define DOCK_STACK 32768
 
 /* How many there are. */
