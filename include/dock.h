@@ -47,8 +47,8 @@ extern "C" {
 #define DOCK_ANSWER 3     /* numbers of an answer */
 
 /*
- * Bytes of stack that a call may take, its own frame included. tests/stack.c measures at most 19,832, in
- * tables that a host made with a chain of 256 entries, and 8,448 in those that requests leave; neither is proved.
+ * Bytes of stack that a call may take, its own frame included. tests/stack.c measures at most 19,832, with
+ * a chain of 256 entries that a host made, and 13,544 with the longest that requests make; neither is proved.
  */
 #define DOCK_STACK 32768
 

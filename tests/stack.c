@@ -22,6 +22,9 @@ static uint8_t sheet[DOCK_SHEET];
 /* What a measured call answered. */
 static unsigned result;
 
+/* The ticket of program 0 of pad 0 that all chains hang on, and its sheet. */
+static uint16_t root_ticket, root_sheet;
+
 static void nothing(void)
 {
 }
@@ -50,7 +53,7 @@ static void serve(void)
 
 static void check(void)
 {
-    result = dock_check(dock.tables, DOCK_TABLES, 0, 0, 1, 0, DOCK_RIGHT_READ);
+    result = dock_check(dock.tables, DOCK_TABLES, 0, 0, root_ticket, root_sheet, DOCK_RIGHT_READ);
 }
 
 static void order(void)
@@ -115,10 +118,10 @@ static void measure_order(const char *name, unsigned wanted)
     if (base_count == sizeof bases / sizeof bases[0])
         exit(2);
     bases[base_count++] = dock;
+    memset(&request, 0, sizeof request); /* refused: the dock stays as it is */
     measure("  dock_in_order", order, wanted);
     measure("  dock_check", check, wanted);
     measure("  dock_serve", serve, wanted);
-    request = (struct dock_request){.op = DOCK_TAKE, .count = 1, .rights = ALL};
     if (wanted != DOCK_ACCEPTED)
         measure("  dock_step", step, wanted);
 }
@@ -136,76 +139,107 @@ static struct who walked(unsigned n, int over_pads)
     return who;
 }
 
-/*
- * From an emptied dock, so many loans of one sheet, each of what the last one lent; the request left is a read by the last borrower.
- * The root has ticket 1, and recall 2 of the first loan.
- */
-static void lend_on(unsigned loans, int over_pads)
-{
-    struct dock_request pass = {.op = DOCK_PASS, .ticket = 1, .count = 1, .rights = ALL};
-    struct who by = root, to;
-    unsigned i;
-
-    empty();
-    ask("take", (struct dock_request){.op = DOCK_TAKE, .count = 1, .rights = ALL}, DOCK_ACCEPTED);
-    for (i = 0; i < loans; i++) {
-        to = walked(i + 1, over_pads);
-        pass.pad = by.pad;
-        pass.program = by.program;
-        pass.topad = to.pad;
-        pass.toprogram = to.program;
-        ask("pass", pass, DOCK_ACCEPTED);
-        pass.ticket = answer.recipient;
-        by = to;
-    }
-    request = (struct dock_request){.pad = by.pad, .program = by.program, .op = DOCK_READ, .ticket = pass.ticket};
-}
+enum way { ON_A_PAD, OVER_PADS, AGAINST_PLACES, WAYS };
+static const char *const way_names[WAYS] = {"loans on a pad", "loans over pads", "loans over pads, each in a lower place of the dock"};
 
 /* As many loans as the places allow: each takes two, the recall's and the grant's. */
-enum { ON_A_PAD = DOCK_PROGRAMS * DOCK_PLACES / 2 - 1, OVER_PADS = DOCK_ENTRIES / 2 - 1 };
+enum { LOANS_ON_A_PAD = DOCK_PROGRAMS * DOCK_PLACES / 2 - 1, LOANS = DOCK_ENTRIES / 2 - 1 };
+
+/* The root's recall of its first loan, and a read of the last borrower's. */
+static struct dock_request recall_all, read_last;
+
+static struct dock_request by(struct who who, uint16_t op, uint16_t ticket)
+{
+    struct dock_request r = {.pad = who.pad, .program = who.program, .op = op, .ticket = ticket};
+    return r;
+}
+
+static void take_one(struct who who)
+{
+    struct dock_request take = by(who, DOCK_TAKE, 0);
+    take.count = 1;
+    take.rights = ALL;
+    ask("take", take, DOCK_ACCEPTED);
+}
+
+static void pass_on(struct who from, uint16_t ticket, struct who to)
+{
+    struct dock_request pass = by(from, DOCK_PASS, ticket);
+    pass.topad = to.pad;
+    pass.toprogram = to.program;
+    pass.count = 1;
+    pass.rights = ALL;
+    ask("pass", pass, DOCK_ACCEPTED);
+}
+
+/*
+ * From an emptied dock, a chain of loans of one sheet, each of what the last one lent. For each to have a lower place in the dock than
+ * the one before, as many grants are taken first, and given back one by one, the newest first.
+ */
+static void lend_on(enum way way)
+{
+    static uint16_t kept[LOANS];
+    int over_pads = way != ON_A_PAD;
+    unsigned loans = over_pads ? LOANS : LOANS_ON_A_PAD, i;
+    uint16_t ticket;
+
+    empty();
+    for (i = loans; way == AGAINST_PLACES && i-- > 0;) {
+        take_one(walked(i, over_pads));
+        kept[i] = answer.ticket;
+    }
+    take_one(root);
+    root_ticket = ticket = answer.ticket;
+    root_sheet = (uint16_t)(way == AGAINST_PLACES ? loans : 0);
+    for (i = 0; i < loans; i++) {
+        if (way == AGAINST_PLACES)
+            ask("give back", by(walked(i, over_pads), DOCK_GIVE_BACK, kept[i]), DOCK_ACCEPTED);
+        pass_on(walked(i, over_pads), ticket, walked(i + 1, over_pads));
+        ticket = answer.recipient;
+        if (i == 0)
+            recall_all = by(root, DOCK_RECALL, answer.ticket);
+    }
+    read_last = by(walked(loans, over_pads), DOCK_READ, ticket);
+}
 
 static void use_chains(void)
 {
-    static const struct dock_request recall = {.op = DOCK_RECALL, .ticket = 2}, give_back = {.op = DOCK_GIVE_BACK, .ticket = 1};
-    struct dock_request last;
-    int over_pads;
+    int way;
 
-    for (over_pads = 0; over_pads <= 1; over_pads++) {
-        unsigned loans = over_pads ? OVER_PADS : ON_A_PAD;
-
-        lend_on(loans, over_pads);
-        last = request;
-        ask("read", last, DOCK_ACCEPTED);
-        last.op = DOCK_WRITE;
-        ask("write", last, DOCK_ACCEPTED);
-        measure_order(over_pads ? "loans over pads" : "loans on a pad", DOCK_ACCEPTED);
-        ask("recall of all loans", recall, DOCK_ACCEPTED);
-        ask("use of a recalled loan", last, over_pads ? DOCK_NO_ENTRY : DOCK_NO_TICKET);
-        lend_on(loans, over_pads);
-        ask("give back of all that was lent", give_back, DOCK_ACCEPTED);
+    for (way = 0; way < WAYS; way++) {
+        lend_on((enum way)way);
+        measure_order(way_names[way], DOCK_ACCEPTED);
+        ask("read", read_last, DOCK_ACCEPTED);
+        ask("recall of all loans", recall_all, DOCK_ACCEPTED);
+        ask("use of a recalled loan", read_last, way == ON_A_PAD ? DOCK_NO_TICKET : DOCK_NO_ENTRY);
+        lend_on((enum way)way);
+        read_last.op = DOCK_WRITE;
+        ask("write", read_last, DOCK_ACCEPTED);
+        ask("give back of all that was lent", by(root, DOCK_GIVE_BACK, root_ticket), DOCK_ACCEPTED);
     }
 }
 
 /* A loan to another pad that is lent on there, recalled: the last borrower's next write drops the whole chain. */
 static void use_stale_chain(void)
 {
-    struct dock_request pass = {.op = DOCK_PASS, .ticket = 1, .topad = 1, .count = 1, .rights = ALL};
+    struct who from = {1, 0}, to;
+    struct dock_request write;
     unsigned i;
 
     empty();
-    ask("take", (struct dock_request){.op = DOCK_TAKE, .count = 1, .rights = ALL}, DOCK_ACCEPTED);
-    ask("pass to another pad", pass, DOCK_ACCEPTED);
-    for (i = 0; i < ON_A_PAD; i++) {
-        pass.pad = 1;
-        pass.ticket = answer.recipient;
-        pass.program = (uint16_t)(i % DOCK_PROGRAMS);
-        pass.toprogram = (uint16_t)((i + 1) % DOCK_PROGRAMS);
-        ask("pass", pass, DOCK_ACCEPTED);
+    take_one(root);
+    pass_on(root, answer.ticket, from);
+    recall_all = by(root, DOCK_RECALL, answer.ticket);
+    for (i = 0; i < LOANS_ON_A_PAD; i++) {
+        to = from;
+        to.program = (uint16_t)((i + 1) % DOCK_PROGRAMS);
+        pass_on(from, answer.recipient, to);
+        from = to;
     }
-    pass = (struct dock_request){.pad = 1, .program = pass.toprogram, .op = DOCK_WRITE, .ticket = answer.recipient};
-    ask("recall", (struct dock_request){.op = DOCK_RECALL, .ticket = 2}, DOCK_ACCEPTED);
-    ask("write of a chain without an entry", pass, DOCK_NO_ENTRY);
-    ask("write of a dropped chain", pass, DOCK_NO_TICKET);
+    write = by(from, DOCK_WRITE, answer.recipient);
+    ask("recall", recall_all, DOCK_ACCEPTED);
+    ask("write of a chain without an entry", write, DOCK_NO_ENTRY);
+    ask("write of a dropped chain", write, DOCK_NO_TICKET);
 }
 
 /* Images that a host made: every place of a pad, or of all, is a link of one chain. */
@@ -293,9 +327,11 @@ static void put_recall(void)
 
 static void use_made_images(void)
 {
-    struct dock_request recall = {DOCK_PADS - 1, DOCK_PROGRAMS - 1, DOCK_RECALL, DOCK_PLACES, 0, 0, 0, 0, 0};
+    const struct who last = {DOCK_PADS - 1, DOCK_PROGRAMS - 1};
     int backwards;
 
+    root_ticket = 1;
+    root_sheet = 0;
     make_children(1);
     measure_order("a ring of 64 children", DOCK_NOT_IN_ORDER);
     make_children(0);
@@ -305,11 +341,11 @@ static void use_made_images(void)
         measure_order("a ring of 256 entries", DOCK_NOT_IN_ORDER);
         make_entries(DOCK_ENTRIES, 0, backwards);
         measure_order("a chain of 256 entries", DOCK_ACCEPTED);
-        ask("give back of a chain of 256 entries", (struct dock_request){.op = DOCK_GIVE_BACK, .ticket = 1}, DOCK_ACCEPTED);
+        ask("give back of a chain of 256 entries", by(root, DOCK_GIVE_BACK, root_ticket), DOCK_ACCEPTED);
         make_entries(DOCK_ENTRIES - 1, 0, backwards);
         put_recall();
         measure_order("a chain of 255 entries and a recall", DOCK_ACCEPTED);
-        ask("recall in a chain of 255 entries", recall, DOCK_ACCEPTED);
+        ask("recall in a chain of 255 entries", by(last, DOCK_RECALL, DOCK_PLACES), DOCK_ACCEPTED);
     }
 }
 
@@ -362,9 +398,7 @@ static void use_damaged_images(void)
         order();
         *(result == DOCK_ACCEPTED ? &in_order : &not_in_order) += 1;
         check();
-        request = (struct dock_request){.pad = (uint16_t)below(DOCK_PADS), .program = (uint16_t)below(DOCK_PROGRAMS)};
-        request.op = (uint16_t)(DOCK_RECALL + below(4));
-        request.ticket = (uint16_t)(1 + below(DOCK_PLACES));
+        request = by(walked(below(32), 1), (uint16_t)(DOCK_RECALL + below(4)), (uint16_t)(1 + below(DOCK_PLACES)));
         serve();
         step();
     }
