@@ -49,7 +49,10 @@ extern "C" {
 /* The version that this header belongs to: major * 10000 + minor * 100 + patch. */
 #define DOCK_VERSION 10000
 
-/* Bytes of stack that a call may take, its own frame included: measured by tests/stack.c, not proved. */
+/*
+ * Bytes of stack that a call may take, its own frame included. tests/stack.c measures at most 19,832, with
+ * a chain of 256 entries that a host made, and 13,544 with the longest that requests make; neither is proved.
+ */
 #define DOCK_STACK 32768
 
 /* How many there are. */

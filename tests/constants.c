@@ -5,6 +5,7 @@
  * access beyond it is seen: by valgrind the library's, by the sanitizers those of this program.
  */
 #include "dock.h"
+#include "image.h"
 #include <stdio.h>
 #include <stdlib.h>
 #include <string.h>
@@ -79,7 +80,7 @@ static int all(const uint8_t *bytes, size_t length, int byte)
 
 /* The dock that most checks are about. */
 
-static uint8_t *tables, *store, *sheet;
+static uint8_t *store, *sheet;
 static uint16_t *request, *answer;
 
 static uint8_t *sheet_of_store(unsigned number)
@@ -144,10 +145,6 @@ static void serve_one(int line, struct dock_request r, int byte, unsigned result
 
 /* Requests. */
 
-struct who {
-    uint16_t pad, program;
-};
-
 /* Two programs of pad 0, and one each of pads 1 and 2. */
 static const struct who capture = {0, 0}, viewer = {0, 1}, nurse = {1, 0}, next = {2, 3};
 
@@ -199,55 +196,7 @@ static struct dock_request write_at(struct who by, uint16_t ticket, uint16_t fir
     return r;
 }
 
-/* The image, by the header's offsets. */
-
-struct name {
-    unsigned pad, program, number;
-};
-
-static unsigned get(size_t at)
-{
-    return tables[at] + 256u * tables[at + 1];
-}
-
-static void put(size_t at, unsigned number)
-{
-    tables[at] = (uint8_t)(number % 256);
-    tables[at + 1] = (uint8_t)(number / 256);
-}
-
-static void put_name(size_t at, struct name name)
-{
-    put(at + DOCK_NAME_PAD_AT, name.pad);
-    put(at + DOCK_NAME_PROGRAM_AT, name.program);
-    put(at + DOCK_NAME_NUMBER_AT, name.number);
-}
-
-static int is_name(size_t at, struct name name)
-{
-    return get(at + DOCK_NAME_PAD_AT) == name.pad && get(at + DOCK_NAME_PROGRAM_AT) == name.program &&
-           get(at + DOCK_NAME_NUMBER_AT) == name.number;
-}
-
-static size_t program_at(struct who who)
-{
-    return (size_t)DOCK_PROGRAM_SIZE * (DOCK_PROGRAMS * (size_t)who.pad + who.program);
-}
-
-static size_t last_at(struct who who)
-{
-    return program_at(who) + DOCK_LAST_AT;
-}
-
-static size_t place_at(struct who who, unsigned place)
-{
-    return program_at(who) + (size_t)DOCK_TICKET_SIZE * place;
-}
-
-static size_t entry_place_at(unsigned place)
-{
-    return DOCK_ENTRIES_AT + (size_t)DOCK_ENTRY_SIZE * place;
-}
+/* What is in the image. */
 
 /* Where a live ticket is. The place is free to the library, so that it is looked for by its number. */
 static size_t ticket_at(int line, struct who who, unsigned number)

@@ -1,8 +1,9 @@
 /*
  * How much stack the library's functions take. Each is called on a stack that was filled with one byte; the deepest byte that changed
- * counts. Exit 1 where one takes more than DOCK_STACK.
+ * counts. Exit 1 where one takes more than DOCK_STACK, or where a call has another result than it should.
  */
 #include "dock.h"
+#include "image.h"
 #include <pthread.h>
 #include <stdio.h>
 #include <stdlib.h>
@@ -18,6 +19,12 @@ static struct dock_request request;
 static struct dock_answer answer;
 static uint8_t sheet[DOCK_SHEET];
 
+/* What a measured call answered. */
+static unsigned result;
+
+/* The ticket of program 0 of pad 0 that all chains hang on, and its sheet. */
+static uint16_t root_ticket, root_sheet;
+
 static void nothing(void)
 {
 }
@@ -25,29 +32,33 @@ static void nothing(void)
 static void empty(void)
 {
     dock_start(&dock);
+    result = DOCK_ACCEPTED;
 }
 
 static void step(void)
 {
     answer = dock_ask(&dock, request, sheet);
+    result = answer.result;
 }
 
 static void serve(void)
 {
-    uint16_t numbers[2 * DOCK_REQUEST] = {0}, answers[2 * DOCK_ANSWER];
-    uint8_t sheets[2 * DOCK_SHEET];
-    (void)dock_serve(dock.tables, DOCK_TABLES, dock.store, DOCK_STORE, sheets, sizeof sheets, numbers, 2 * DOCK_REQUEST, answers,
-                     2 * DOCK_ANSWER);
+    static struct dock_request requests[2];
+    static struct dock_answer answers[2];
+    static uint8_t sheets[2][DOCK_SHEET];
+
+    requests[1] = request;
+    result = dock_ask_all(&dock, requests, sheets, answers, 2);
 }
 
 static void check(void)
 {
-    (void)dock_check(dock.tables, DOCK_TABLES, 0, 0, 1, 0, DOCK_RIGHT_READ);
+    result = dock_check(dock.tables, DOCK_TABLES, 0, 0, root_ticket, root_sheet, DOCK_RIGHT_READ);
 }
 
 static void order(void)
 {
-    (void)dock_in_order(dock.tables, DOCK_TABLES);
+    result = dock_in_order(dock.tables, DOCK_TABLES);
 }
 
 static void *run(void *what)
@@ -77,61 +88,336 @@ static size_t depth(void (*what)(void))
 
 static size_t thread_alone, most;
 
-static void measure(const char *name, void (*what)(void))
+/* Measures a call, which must have this result. */
+static void measure(const char *name, void (*what)(void), unsigned wanted)
 {
     size_t bytes = depth(what) - thread_alone;
     printf("%s: %zu bytes\n", name, bytes);
     if (bytes > most)
         most = bytes;
-}
-
-/* One request, which must have this result. */
-static void ask(const char *name, struct dock_request asked, unsigned result)
-{
-    request = asked;
-    measure(name, step);
-    if (answer.result != result) {
-        fprintf(stderr, "stack: %s: result %d, not %u\n", name, answer.result, result);
+    if (result != wanted) {
+        fprintf(stderr, "stack: %s: %s, not %s\n", name, dock_result_name((uint16_t)result), dock_result_name((uint16_t)wanted));
         exit(1);
     }
 }
 
-/* The number of the ticket at the end of a chain of so many loans that went round the programs of a pad: each gave a recall and a grant. */
-static uint16_t ticket_after(unsigned loans)
+static void ask(const char *name, struct dock_request asked, unsigned wanted)
 {
-    return (uint16_t)(1 + 2 * (loans / DOCK_PROGRAMS));
+    request = asked;
+    measure(name, step, wanted);
+}
+
+/* Docks that were reached or made, for the damaged ones further down. */
+static struct dock bases[16];
+static unsigned base_count;
+
+/* The functions that test the order, on this dock, and which result that has. */
+static void measure_order(const char *name, unsigned wanted)
+{
+    printf("%s:\n", name);
+    if (base_count == sizeof bases / sizeof bases[0])
+        exit(2);
+    bases[base_count++] = dock;
+    memset(&request, 0, sizeof request); /* refused: the dock stays as it is */
+    measure("  dock_in_order", order, wanted);
+    measure("  dock_check", check, wanted);
+    measure("  dock_serve", serve, wanted);
+    if (wanted != DOCK_ACCEPTED)
+        measure("  dock_step", step, wanted);
+}
+
+/* Chains of loans, made by requests. */
+
+static const struct who root = {0, 0};
+
+/* The program that has the n-th place of a walk through the programs of a pad, or, over all pads, through those of every pad in turn. */
+static struct who walked(unsigned n, int over_pads)
+{
+    struct who who;
+    who.pad = (uint16_t)(over_pads ? n % DOCK_PADS : 0);
+    who.program = (uint16_t)((over_pads ? n / DOCK_PADS : n) % DOCK_PROGRAMS);
+    return who;
+}
+
+enum way { ON_A_PAD, OVER_PADS, AGAINST_PLACES, WAYS };
+static const char *const way_names[WAYS] = {"loans on a pad", "loans over pads", "loans over pads, each in a lower place of the dock"};
+
+/* As many loans as the places allow: each takes two, the recall's and the grant's. */
+enum { LOANS_ON_A_PAD = DOCK_PROGRAMS * DOCK_PLACES / 2 - 1, LOANS = DOCK_ENTRIES / 2 - 1 };
+
+/* The root's recall of its first loan, and a read of the last borrower's. */
+static struct dock_request recall_all, read_last;
+
+static struct dock_request by(struct who who, uint16_t op, uint16_t ticket)
+{
+    struct dock_request r = {.pad = who.pad, .program = who.program, .op = op, .ticket = ticket};
+    return r;
+}
+
+static void take_one(struct who who)
+{
+    struct dock_request take = by(who, DOCK_TAKE, 0);
+    take.count = 1;
+    take.rights = ALL;
+    ask("take", take, DOCK_ACCEPTED);
+}
+
+static void pass_on(struct who from, uint16_t ticket, struct who to)
+{
+    struct dock_request pass = by(from, DOCK_PASS, ticket);
+    pass.topad = to.pad;
+    pass.toprogram = to.program;
+    pass.count = 1;
+    pass.rights = ALL;
+    ask("pass", pass, DOCK_ACCEPTED);
+}
+
+/*
+ * From an emptied dock, a chain of loans of one sheet, each of what the last one lent. For each to have a lower place in the dock than
+ * the one before, as many grants are taken first, and given back one by one, the newest first.
+ */
+static void lend_on(enum way way)
+{
+    static uint16_t kept[LOANS];
+    int over_pads = way != ON_A_PAD;
+    unsigned loans = over_pads ? LOANS : LOANS_ON_A_PAD, i;
+    uint16_t ticket;
+
+    empty();
+    for (i = loans; way == AGAINST_PLACES && i-- > 0;) {
+        take_one(walked(i, over_pads));
+        kept[i] = answer.ticket;
+    }
+    take_one(root);
+    root_ticket = ticket = answer.ticket;
+    root_sheet = (uint16_t)(way == AGAINST_PLACES ? loans : 0);
+    for (i = 0; i < loans; i++) {
+        if (way == AGAINST_PLACES)
+            ask("give back", by(walked(i, over_pads), DOCK_GIVE_BACK, kept[i]), DOCK_ACCEPTED);
+        pass_on(walked(i, over_pads), ticket, walked(i + 1, over_pads));
+        ticket = answer.recipient;
+        if (i == 0)
+            recall_all = by(root, DOCK_RECALL, answer.ticket);
+    }
+    read_last = by(walked(loans, over_pads), DOCK_READ, ticket);
+}
+
+static void use_chains(void)
+{
+    int way;
+
+    for (way = 0; way < WAYS; way++) {
+        lend_on((enum way)way);
+        measure_order(way_names[way], DOCK_ACCEPTED);
+        ask("read", read_last, DOCK_ACCEPTED);
+        ask("recall of all loans", recall_all, DOCK_ACCEPTED);
+        ask("use of a recalled loan", read_last, way == ON_A_PAD ? DOCK_NO_TICKET : DOCK_NO_ENTRY);
+        lend_on((enum way)way);
+        read_last.op = DOCK_WRITE;
+        ask("write", read_last, DOCK_ACCEPTED);
+        ask("give back of all that was lent", by(root, DOCK_GIVE_BACK, root_ticket), DOCK_ACCEPTED);
+    }
+}
+
+/* A loan to another pad that is lent on there, recalled: the last borrower's next write drops the whole chain. */
+static void use_stale_chain(void)
+{
+    struct who from = {1, 0}, to;
+    struct dock_request write;
+    unsigned i;
+
+    empty();
+    take_one(root);
+    pass_on(root, answer.ticket, from);
+    recall_all = by(root, DOCK_RECALL, answer.ticket);
+    for (i = 0; i < LOANS_ON_A_PAD; i++) {
+        to = from;
+        to.program = (uint16_t)((i + 1) % DOCK_PROGRAMS);
+        pass_on(from, answer.recipient, to);
+        from = to;
+    }
+    write = by(from, DOCK_WRITE, answer.recipient);
+    ask("recall", recall_all, DOCK_ACCEPTED);
+    ask("write of a chain without an entry", write, DOCK_NO_ENTRY);
+    ask("write of a dropped chain", write, DOCK_NO_TICKET);
+}
+
+/* Images that a host made: every place of a pad, or of all, is a link of one chain. */
+
+static struct name link_name(unsigned n, int over_pads)
+{
+    struct who who = walked(n, over_pads);
+    struct name name = {who.pad, who.program, 1 + n / (DOCK_PROGRAMS * (over_pads ? DOCK_PADS : 1))};
+    return name;
+}
+
+static void put_grant(struct name name, unsigned kind, struct name parent, struct name at_dock)
+{
+    struct who who = {(uint16_t)name.pad, (uint16_t)name.program};
+    size_t at = place_at(who, name.number - 1);
+
+    put(at + DOCK_TICKET_KIND_AT, kind);
+    put(at + DOCK_TICKET_NUMBER_AT, name.number);
+    put_name(at + DOCK_TICKET_OTHER_AT, parent);
+    put(at + DOCK_TICKET_FIRST_AT, 0);
+    put(at + DOCK_TICKET_COUNT_AT, 1);
+    put(at + DOCK_TICKET_RIGHTS_AT, ALL);
+    put_name(at + DOCK_TICKET_DOCK_AT, at_dock);
+    put(last_at(who), name.number);
+}
+
+static void put_entry(unsigned place, struct name name, struct name parent)
+{
+    size_t at = entry_place_at(place);
+
+    put(at + DOCK_ENTRY_LIVE_AT, 1);
+    put_name(at + DOCK_ENTRY_NAME_AT, name);
+    put_name(at + DOCK_ENTRY_PARENT_AT, parent);
+    put(at + DOCK_ENTRY_FIRST_AT, 0);
+    put(at + DOCK_ENTRY_COUNT_AT, 1);
+    put(at + DOCK_ENTRY_RIGHTS_AT, ALL);
+}
+
+static const struct name the_store = {0, 0, 0};
+
+/* A taken grant and children under it, each of the last one; or, as a ring, children alone. None has a recall. */
+static void make_children(int ring)
+{
+    enum { LINKS = DOCK_PROGRAMS * DOCK_PLACES };
+    const struct name head = link_name(0, 0);
+    unsigned n;
+
+    empty();
+    for (n = 0; n < LINKS; n++)
+        put_grant(link_name(n, 0), DOCK_KIND_CHILD, link_name((n + LINKS - 1) % LINKS, 0), head);
+    if (!ring) {
+        put_grant(head, DOCK_KIND_TAKEN, the_store, head);
+        put(last_at(root), DOCK_PLACES);
+        put_entry(0, head, the_store);
+    }
+}
+
+/* A taken grant and received ones, whose entries are a chain, or a ring, of so many; the first link has the first place, or the last. */
+static void make_entries(unsigned links, int ring, int backwards)
+{
+    unsigned n;
+
+    empty();
+    for (n = 0; n < links; n++) {
+        struct name name = link_name(n, 1), parent = link_name((n + links - 1) % links, 1);
+        int head = n == 0 && !ring;
+
+        put_grant(name, head ? DOCK_KIND_TAKEN : DOCK_KIND_RECEIVED, the_store, name);
+        put_entry(backwards ? links - 1 - n : n, name, head ? the_store : parent);
+    }
+}
+
+/* In the place that a chain of 255 leaves, a recall of the loan that follows the last program's first grant. */
+static void put_recall(void)
+{
+    struct who last = {DOCK_PADS - 1, DOCK_PROGRAMS - 1};
+    size_t at = place_at(last, DOCK_PLACES - 1);
+
+    put(at + DOCK_TICKET_KIND_AT, DOCK_KIND_RECALL);
+    put(at + DOCK_TICKET_NUMBER_AT, DOCK_PLACES);
+    put(at + DOCK_TICKET_OWN_AT, 1);
+    put_name(at + DOCK_TICKET_OTHER_AT, link_name(DOCK_PADS * DOCK_PROGRAMS, 1));
+    put(last_at(last), DOCK_PLACES);
+}
+
+static void use_made_images(void)
+{
+    const struct who last = {DOCK_PADS - 1, DOCK_PROGRAMS - 1};
+    int backwards;
+
+    root_ticket = 1;
+    root_sheet = 0;
+    make_children(1);
+    measure_order("a ring of 64 children", DOCK_NOT_IN_ORDER);
+    make_children(0);
+    measure_order("a chain of 63 children, without recalls", DOCK_NOT_IN_ORDER);
+    for (backwards = 0; backwards <= 1; backwards++) {
+        make_entries(DOCK_ENTRIES, 1, backwards);
+        measure_order("a ring of 256 entries", DOCK_NOT_IN_ORDER);
+        make_entries(DOCK_ENTRIES, 0, backwards);
+        measure_order("a chain of 256 entries", DOCK_ACCEPTED);
+        ask("give back of a chain of 256 entries", by(root, DOCK_GIVE_BACK, root_ticket), DOCK_ACCEPTED);
+        make_entries(DOCK_ENTRIES - 1, 0, backwards);
+        put_recall();
+        measure_order("a chain of 255 entries and a recall", DOCK_ACCEPTED);
+        ask("recall in a chain of 255 entries", by(last, DOCK_RECALL, DOCK_PLACES), DOCK_ACCEPTED);
+    }
+}
+
+/* Damaged images: each of those above with some words changed, and images of random fields. All in one measured call. */
+
+enum { IMAGES = 6000 };
+static unsigned in_order, not_in_order;
+
+static unsigned below(unsigned limit)
+{
+    static uint32_t seed = 1;
+    seed = seed * 1664525u + 1013904223u;
+    return (seed >> 8) % limit;
+}
+
+static void damage(void)
+{
+    unsigned words = below(6);
+
+    dock = bases[below(base_count)];
+    while (words-- > 0) {
+        size_t at = 2 * (size_t)below(DOCK_TABLES / 2);
+        unsigned number[] = {below(9), below(65536), get(2 * (size_t)below(DOCK_TABLES / 2))};
+        put(at, number[below(3)]);
+    }
+}
+
+static void randomize(void)
+{
+    size_t at;
+    unsigned place;
+
+    for (at = 0; at < DOCK_TABLES; at += 2)
+        put(at, below(DOCK_PROGRAMS + 1));
+    for (place = 0; place < DOCK_PADS * DOCK_PROGRAMS * DOCK_PLACES; place++)
+        put(place_at(walked(place, 1), place / (DOCK_PADS * DOCK_PROGRAMS)) + DOCK_TICKET_KIND_AT, below(DOCK_KIND_RECALL + 1));
+    for (place = 0; place < DOCK_ENTRIES; place++)
+        put(entry_place_at(place) + DOCK_ENTRY_LIVE_AT, below(2));
+}
+
+static void use_damaged_images(void)
+{
+    unsigned i;
+
+    for (i = 0; i < IMAGES; i++) {
+        if (i % 8 == 0)
+            randomize();
+        else
+            damage();
+        order();
+        *(result == DOCK_ACCEPTED ? &in_order : &not_in_order) += 1;
+        check();
+        request = by(walked(below(32), 1), (uint16_t)(DOCK_RECALL + below(4)), (uint16_t)(1 + below(DOCK_PLACES)));
+        serve();
+        step();
+    }
+    result = DOCK_ACCEPTED;
 }
 
 int main(void)
 {
-    enum { LOANS = 31 };
-    struct dock_request pass = {.op = DOCK_PASS, .count = 1, .rights = ALL};
-    unsigned i;
-
+    tables = dock.tables;
     thread_alone = depth(nothing);
-    measure("dock_empty", empty);
-    ask("take", (struct dock_request){.op = DOCK_TAKE, .count = 1, .rights = ALL}, DOCK_ACCEPTED);
-    /* The longest chain that the places of a pad allow, from a grant that another pad lent. */
-    ask("pass to another pad", (struct dock_request){.op = DOCK_PASS, .ticket = 1, .topad = 1, .count = 1, .rights = ALL}, DOCK_ACCEPTED);
-    for (i = 0; i < LOANS; i++) {
-        pass.pad = pass.topad = 1;
-        pass.program = (uint16_t)(i % DOCK_PROGRAMS);
-        pass.toprogram = (uint16_t)((i + 1) % DOCK_PROGRAMS);
-        pass.ticket = ticket_after(i);
-        ask("pass", pass, DOCK_ACCEPTED);
+    measure("dock_empty", empty, DOCK_ACCEPTED);
+    use_chains();
+    use_stale_chain();
+    use_made_images();
+    measure("damaged images", use_damaged_images, DOCK_ACCEPTED);
+    if (in_order < IMAGES / 20 || not_in_order < IMAGES / 2) {
+        fprintf(stderr, "stack: %u images in order and %u not: too few of one sort\n", in_order, not_in_order);
+        return 1;
     }
-    request = (struct dock_request){.pad = 1, .program = LOANS % DOCK_PROGRAMS, .op = DOCK_READ, .ticket = ticket_after(LOANS)};
-    ask("read", request, DOCK_ACCEPTED);
-    request.op = DOCK_WRITE;
-    ask("write", request, DOCK_ACCEPTED);
-    measure("dock_serve", serve);
-    measure("dock_check", check);
-    measure("dock_in_order", order);
-    /* The loan is recalled; the last borrower's next write finds no entry, and the whole chain goes. */
-    ask("recall", (struct dock_request){.op = DOCK_RECALL, .ticket = 2}, DOCK_ACCEPTED);
-    request = (struct dock_request){.pad = 1, .program = LOANS % DOCK_PROGRAMS, .op = DOCK_WRITE, .ticket = ticket_after(LOANS)};
-    ask("write of a chain without an entry", request, DOCK_NO_ENTRY);
-    ask("give back", (struct dock_request){.op = DOCK_GIVE_BACK, .ticket = 1}, DOCK_ACCEPTED);
-    printf("stack: at most %zu bytes\n", most);
+    printf("stack: at most %zu bytes; %u images not in order among those tried\n", most, not_in_order);
     return most <= DOCK_STACK ? 0 : 1;
 }

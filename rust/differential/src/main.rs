@@ -3,13 +3,12 @@
 //! usage: differential [REQUESTS] [SEED]
 
 mod damage;
-mod requests;
 
 use dock::{raw, ANSWER, REQUEST};
 use image::random::Rng;
 use image::View;
 use model::{Answer, Name, Request, State, SEATS, SHEET, STORE};
-use requests::Asker;
+use requests::{Asker, Seats};
 use std::{env, process::ExitCode};
 
 /// What the answer buffer holds before a call, to see that 13 and 14 write nothing.
@@ -254,7 +253,7 @@ impl Driver {
             sides = if fresh { emptied(&mut self.rng, &sides)? } else { self.changed()? };
             sides.compare_order(&mut self.rng, &mut self.counts)?;
             let length = if fresh { 60 + self.rng.below(250) } else { 12 + self.rng.below(40) };
-            let mut asker = Asker::new(&mut self.rng);
+            let mut asker = Asker::new(&mut self.rng, Seats::all());
             let stop = requests.min(self.counts.requests + length);
             while self.counts.requests < stop {
                 if self.rng.once_in(30) {

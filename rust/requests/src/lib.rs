@@ -1,12 +1,57 @@
-//! Random requests that lean towards what is rare: deep chains, stale grants, full places, several faults
-//! in one request.
+//! Random requests of some of the programs among themselves, which lean towards what is rare: deep chains,
+//! stale grants, full places, several faults in one request.
 
 use image::random::Rng;
 use model::{Answer, Grant, Name, Request, State, Ticket, PASS_ON, SEATS};
 use std::collections::VecDeque;
 
+/// A set of programs, by their seats.
+#[derive(Clone, Debug)]
+pub struct Seats {
+    list: Vec<usize>,
+    has: [bool; SEATS],
+}
+
+impl Seats {
+    pub fn all() -> Self {
+        Seats::of(|_| true)
+    }
+
+    pub fn of(wanted: impl FnMut(&usize) -> bool) -> Self {
+        let list: Vec<usize> = (0..SEATS).filter(wanted).collect();
+        let mut has = [false; SEATS];
+        list.iter().for_each(|&seat| has[seat] = true);
+        Seats { list, has }
+    }
+
+    /// The other programs.
+    pub fn rest(&self) -> Self {
+        Seats::of(|&seat| !self.has[seat])
+    }
+
+    pub fn is_empty(&self) -> bool {
+        self.list.is_empty()
+    }
+
+    pub fn has(&self, seat: usize) -> bool {
+        self.has[seat]
+    }
+
+    /// Some seat of a set that is not empty.
+    pub fn pick(&self, rng: &mut Rng) -> usize {
+        self.list[rng.below(self.list.len())]
+    }
+
+    /// The first that fits from this seat on, all round.
+    fn from(&self, seat: usize, fits: impl Fn(usize) -> bool) -> Option<usize> {
+        (seat..seat + SEATS).map(|seat| seat % SEATS).find(|&seat| self.has[seat] && fits(seat))
+    }
+}
+
 /// What the requests of a round tend to.
 pub struct Asker {
+    /// The programs that ask and are lent to; one at least.
+    seats: Seats,
     /// How often take, pass, recall, give back, read, write.
     weights: [usize; 6],
     /// Passes to another pad, of a hundred.
@@ -43,9 +88,10 @@ const WEIGHTS: [[usize; 6]; 6] = [
 ];
 
 impl Asker {
-    pub fn new(rng: &mut Rng) -> Self {
+    pub fn new(rng: &mut Rng, seats: Seats) -> Self {
         let (first_far, around) = (rng.once_in(2), rng.once_in(3));
         Asker {
+            seats,
             weights: WEIGHTS[rng.below(WEIGHTS.len())],
             far: [0, 15, 50, 50, 90][rng.below(5)],
             large: rng.once_in(5),
@@ -78,7 +124,7 @@ impl Asker {
     fn link(&mut self, rng: &mut Rng) -> Option<Request> {
         let chain = self.chain.as_ref()?;
         let Some(at) = chain.at else {
-            let (by, count) = (Name::new(rng.below(SEATS), 0), 1 + rng.below(3) as u16);
+            let (by, count) = (Name::new(self.seats.pick(rng), 0), 1 + rng.below(3) as u16);
             return Some(Request { count, rights: 7, ..Request::by(by, 1) });
         };
         let seat = at.seat()?;
@@ -86,6 +132,8 @@ impl Asker {
         let to = if abroad { (seat + 8) % SEATS } else { seat / 8 * 8 + (seat + 1) % 8 };
         // Around the pads, each time round goes to the next program.
         let to = if chain.around && seat >= 24 { (to + 1) % 8 } else { to };
+        // Where nobody is left to lend to, the pass to oneself that ends the chain.
+        let to = self.seats.from(to, |to| to != seat && (to / 8 != seat / 8) == abroad).unwrap_or(seat);
         Some(Request { count: 1, rights: 7, ..to_seat(Request::by(at, 2), to) })
     }
 
@@ -122,7 +170,9 @@ impl Asker {
             op += 1;
         }
         let op = op as u16 + 1;
-        let live: Vec<(Name, Ticket)> = state.tickets().map(|(name, ticket)| (name, *ticket)).collect();
+        let own = |name: &Name| name.seat().is_some_and(|seat| self.seats.has(seat));
+        let live: Vec<(Name, Ticket)> =
+            state.tickets().filter(|(name, _)| own(name)).map(|(name, ticket)| (name, *ticket)).collect();
         if op == 1 || live.is_empty() {
             return self.take(rng, &live);
         }
@@ -143,13 +193,13 @@ impl Asker {
             name.number = rng.below(state.last(name.seat().unwrap_or(0)) as usize + 2) as u16;
         }
         if rng.once_in(30) {
-            name = Name::new(rng.below(SEATS), name.number);
+            name = Name::new(self.seats.pick(rng), name.number);
         }
         let request = Request::by(name, op);
         match (op, ticket) {
             (2, Ticket::Grant(grant)) => self.pass(rng, &live, request, &grant),
             (2, _) => {
-                let to = rng.below(SEATS);
+                let to = self.seats.pick(rng);
                 Request { count: 1, rights: 1 + rng.below(7) as u16, ..to_seat(request, to) }
             }
             (3, Ticket::Recall { target, .. }) => {
@@ -174,7 +224,7 @@ impl Asker {
             1 + rng.below(4)
         };
         let rights = if rng.once_in(4) { 1 + rng.below(7) as u16 } else { 7 };
-        let seat = if rng.once_in(3) { busy(rng, live) } else { rng.below(SEATS) };
+        let seat = if rng.once_in(3) { self.busy(rng, live) } else { self.seats.pick(rng) };
         Request { count: count as u16, rights, ..Request::by(Name::new(seat, 0), 1) }
     }
 
@@ -183,9 +233,12 @@ impl Asker {
         let seat = (request.pad as usize * 8 + request.program as usize) % SEATS;
         let to = match rng.below(24) {
             0 => seat,
-            1..6 => busy(rng, live),
-            _ if rng.below(100) < self.far => rng.below(SEATS),
-            _ => seat / 8 * 8 + (seat + 1 + rng.below(7)) % 8,
+            1..6 => self.busy(rng, live),
+            _ if rng.below(100) < self.far => self.seats.pick(rng),
+            _ => {
+                let beside = seat / 8 * 8 + (seat + 1 + rng.below(7)) % 8;
+                self.seats.from(beside, |to| to != seat && to / 8 == seat / 8).unwrap_or(seat)
+            }
         };
         let all = grant.sheets.count as usize;
         let whole = self.whole && !rng.once_in(4) || all == 0;
@@ -208,20 +261,21 @@ impl Asker {
             .map(|(name, _)| name)
             .collect();
         let name = rng.pick(&under).unwrap_or(target);
-        let (to, rights) = (rng.below(SEATS), 1 + rng.below(7) as u16);
+        let (to, rights) = (self.seats.pick(rng), 1 + rng.below(7) as u16);
         let first_use = match rng.below(3) {
             0 => Request { count: 1, rights, ..to_seat(Request::by(name, 2), to) },
             kind => Request::by(name, 4 + kind as u16),
         };
         self.after.extend([first_use, Request::by(name, 5)]);
     }
+
+    /// Some program with tickets; the more it has, the more often it is met.
+    fn busy(&self, rng: &mut Rng, live: &[(Name, Ticket)]) -> usize {
+        rng.pick(live).and_then(|(name, _)| name.seat()).unwrap_or(self.seats.list[0])
+    }
 }
 
-/// Some program with tickets; the more it has, the more often it is met.
-fn busy(rng: &mut Rng, live: &[(Name, Ticket)]) -> usize {
-    rng.pick(live).and_then(|(name, _)| name.seat()).unwrap_or(0)
-}
-
-fn to_seat(request: Request, to: usize) -> Request {
+/// The request with another recipient.
+pub fn to_seat(request: Request, to: usize) -> Request {
     Request { topad: to as u16 / 8, toprogram: to as u16 % 8, ..request }
 }
