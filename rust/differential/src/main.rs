@@ -3,6 +3,7 @@
 //! usage: differential [REQUESTS] [SEED]
 
 mod damage;
+mod texts;
 
 use dock::{raw, ANSWER, REQUEST};
 use image::random::Rng;
@@ -30,6 +31,7 @@ struct Counts {
     not_in_order: usize,
     batches: usize,
     fell_midway: usize,
+    traces: usize,
     checks: usize,
 }
 
@@ -258,6 +260,8 @@ impl Driver {
             while self.counts.requests < stop {
                 if self.rng.once_in(30) {
                     self.batch(&mut sides, &mut asker)?;
+                } else if self.rng.once_in(100) {
+                    self.trace(&sides)?;
                 } else {
                     self.one(&mut sides, &mut asker)?;
                 }
@@ -325,6 +329,13 @@ impl Driver {
         self.counts.fell_midway += usize::from(begun == 0 && sides.verdict() != 0);
         sides.batch((&tables, &store), begun, &served)
     }
+
+    fn trace(&mut self, sides: &Sides) -> Result<(), String> {
+        let mut asker = Asker::new(&mut self.rng, Seats::all());
+        let text = texts::random(&mut self.rng, sides, &mut asker);
+        self.counts.traces += 1;
+        texts::compare(&mut self.rng, sides, &text)
+    }
 }
 
 fn main() -> ExitCode {
@@ -352,13 +363,14 @@ fn main() -> ExitCode {
     println!("batches            {:>9}", counts.batches);
     println!("  out of order midway{:>7}", counts.fell_midway);
     println!("checks of the dock {:>9}", counts.checks);
+    println!("traces             {:>9}", counts.traces);
     let missing: Vec<usize> = (0..15).filter(|&result| counts.results[result] == 0).collect();
     if !missing.is_empty() {
         println!("not reached: {missing:?}");
         return ExitCode::FAILURE;
     }
     let images = counts.in_order + counts.not_in_order;
-    let (requests, batches) = (counts.requests, counts.batches);
-    println!("differential: {requests} requests, {images} images, {batches} batches, no difference");
+    let (requests, batches, traces) = (counts.requests, counts.batches, counts.traces);
+    println!("differential: {requests} requests, {images} images, {batches} batches, {traces} traces, no difference");
     ExitCode::SUCCESS
 }
