@@ -1,4 +1,4 @@
 # every stored trace, answered as the trace program answers it
 for text in ../../crates/test_cases/data/*.in; do
-    dock trace <"$text" | cmp - "${text%.in}.out" && echo "${text##*/} $?"
+    dock trace <"$text" | cmp -s - "${text%.in}.out" || echo "another answer: ${text##*/}"
 done
