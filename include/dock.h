@@ -47,9 +47,8 @@ extern "C" {
 #define DOCK_ANSWER 3     /* numbers of an answer */
 
 /*
- * Bytes of stack that a call may take, its own frame included. Measured by tests/stack.c, not proved:
- * at most 19,832, with a chain of 256 entries that a host made; 13,544 with the longest chain that
- * requests can make.
+ * Bytes of stack that a call may take, its own frame included. tests/stack.c measures at most 19,832,
+ * with a chain of 256 entries; this is not proved.
  */
 #define DOCK_STACK 32768
 
