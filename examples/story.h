@@ -61,6 +61,7 @@ static void print_names(void)
 static void print_answer(size_t line, struct dock_answer answer, const uint8_t sheet[DOCK_SHEET])
 {
     int read = story[line].request.op == DOCK_READ && answer.result == DOCK_ACCEPTED;
+    int byte = read ? sheet[0] : 0;
 
-    printf("%d %d %d %d %d\n", (int)line + 1, answer.result, answer.ticket, answer.recipient, read ? sheet[0] : 0);
+    printf("%d %d %d %d %d\n", (int)line + 1, answer.result, answer.ticket, answer.recipient, byte);
 }

@@ -50,8 +50,8 @@ extern "C" {
 #define DOCK_VERSION 10000
 
 /*
- * Bytes of stack that a call may take, its own frame included. tests/stack.c measures at most 19,832, with
- * a chain of 256 entries that a host made, and 13,544 with the longest that requests make; neither is proved.
+ * Bytes of stack that a call may take, its own frame included. tests/stack.c measures at most 19,832,
+ * with a chain of 256 entries; this is not proved.
  */
 #define DOCK_STACK 32768
 
@@ -244,9 +244,11 @@ struct dock_answer {
     uint16_t result, ticket, recipient;
 };
 
-/* Without padding they are their numbers in a row, and are lent as they lie. */
-typedef char dock_request_has_no_padding[sizeof(struct dock_request) == DOCK_REQUEST * sizeof(uint16_t) ? 1 : -1];
-typedef char dock_answer_has_no_padding[sizeof(struct dock_answer) == DOCK_ANSWER * sizeof(uint16_t) ? 1 : -1];
+/* Without padding they are their numbers in a row, and are lent as they lie, from the first one on. */
+typedef char dock_request_has_no_padding
+    [sizeof(struct dock_request) == DOCK_REQUEST * sizeof(uint16_t) ? 1 : -1];
+typedef char dock_answer_has_no_padding
+    [sizeof(struct dock_answer) == DOCK_ANSWER * sizeof(uint16_t) ? 1 : -1];
 
 /* Empties a dock. Each dock starts with this. */
 static inline void dock_start(struct dock *dock)
@@ -264,7 +266,7 @@ static inline struct dock_answer dock_ask(struct dock *dock, struct dock_request
     struct dock_answer answer = {0, 0, 0};
     /* The returned number is the result also where the library writes no answer. */
     answer.result = dock_step(dock->tables, DOCK_TABLES, dock->store, DOCK_STORE, sheet, DOCK_SHEET,
-                              (const uint16_t *)&request, DOCK_REQUEST, (uint16_t *)&answer, DOCK_ANSWER);
+                              &request.pad, DOCK_REQUEST, &answer.result, DOCK_ANSWER);
     return answer;
 }
 
@@ -273,10 +275,11 @@ static inline struct dock_answer dock_ask(struct dock *dock, struct dock_request
  * for structs. DOCK_ACCEPTED, or DOCK_NOT_IN_ORDER, and then no answer is written.
  */
 static inline uint16_t dock_ask_all(struct dock *dock, const struct dock_request *requests,
-                                    uint8_t (*sheets)[DOCK_SHEET], struct dock_answer *answers, size_t n)
+                                    uint8_t (*sheets)[DOCK_SHEET], struct dock_answer *answers,
+                                    size_t n)
 {
-    return dock_serve(dock->tables, DOCK_TABLES, dock->store, DOCK_STORE, (uint8_t *)sheets, DOCK_SHEET * n,
-                      (const uint16_t *)requests, DOCK_REQUEST * n, (uint16_t *)answers, DOCK_ANSWER * n);
+    return dock_serve(dock->tables, DOCK_TABLES, dock->store, DOCK_STORE, *sheets, DOCK_SHEET * n,
+                      &requests->pad, DOCK_REQUEST * n, &answers->result, DOCK_ANSWER * n);
 }
 
 /* A result in words. */

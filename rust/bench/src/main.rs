@@ -301,7 +301,7 @@ fn main() -> ExitCode {
     let fills = [("empty", 0), ("light", 45), ("mixed", 150), ("full", 256)];
     let mut agree = fills
         .iter()
-        .filter(|(fill, _)| only.as_ref().map_or(true, |name| name == fill))
+        .filter(|(fill, _)| only.as_ref().is_none_or(|name| name == fill))
         .all(|&(fill, level)| show(&trace(fill, level, length as usize, seed)));
     if only.is_none() {
         agree &= growth(length as usize, seed);
