@@ -45,6 +45,8 @@ extern "C" {
 #define DOCK_SHEET 64     /* bytes of a sheet, and of a request's sheet buffer */
 #define DOCK_REQUEST 9    /* numbers of a request */
 #define DOCK_ANSWER 3     /* numbers of an answer */
+#define DOCK_TRACE_INPUT 65536 /* bytes of the longest input of a trace */
+#define DOCK_TRACE_ROOM 983074 /* bytes that every trace fits into */
 
 /* The version that this header belongs to: major * 10000 + minor * 100 + patch. */
 #define DOCK_VERSION 10000
@@ -225,6 +227,26 @@ uint16_t dock_check(const uint8_t *tables, size_t tables_length,
 
 /* DOCK_LENGTH, DOCK_NOT_IN_ORDER, or DOCK_ACCEPTED for tables in order. Changes nothing. */
 uint16_t dock_in_order(const uint8_t *tables, size_t tables_length);
+
+/*
+ * The trace: requests as text, answers as text, as the trace program has them, on this dock. The
+ * input's first line is
+ *     pad program op ticket topad toprogram first count rights fill
+ * and each line after it one request, served in turn as dock_step would with a sheet buffer of the
+ * byte fill (of a write; otherwise 0). The trace begins with
+ *     line result ticket recipient byte
+ * and has one line for each of them: its number, from 1; its answer; the first byte of an accepted
+ * read, or 0. A line of another form is answered 15 and changes nothing. An input with other names, or
+ * longer than DOCK_TRACE_INPUT, is answered by the one line 0 15 0 0 0. Where tables that a host made
+ * fall out of order midway, each request after that is answered 14.
+ * Lengths: DOCK_TABLES, DOCK_STORE; of input and output any. The trace goes to the front of the output
+ * and its length to *length. An output shorter than DOCK_TRACE_ROOM costs a second run, to measure.
+ * DOCK_LENGTH, DOCK_NOT_IN_ORDER, or DOCK_OUTPUT where the output is too short for the whole trace:
+ * nothing else is written, and *length is 0.
+ */
+uint16_t dock_trace(uint8_t *tables, size_t tables_length, uint8_t *store, size_t store_length,
+                    const uint8_t *input, size_t input_length,
+                    uint8_t *output, size_t output_length, size_t *length);
 
 /* The rest is convenience over the functions above, and no part of the library. */
 

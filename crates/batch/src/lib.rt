@@ -31,7 +31,7 @@ pub fn put_answer(numbers: &mut [u16], a: Answer)
 }
 
 // The step on lent tables. Where they are known to be in order, they are not tested again.
-fn serve_one(
+pub fn serve_one(
     tables: &mut [u8],
     store: &mut [u8],
     sheet: &mut [u8],

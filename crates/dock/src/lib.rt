@@ -3,6 +3,7 @@
 ghost use mathlib.Core.Path.{_≡_};
 ghost use Rattle.image.specs.Layout.{imageSize};
 ghost use Rattle.lending.specs.Batch.{buffersOf, Leaves};
+ghost use Rattle.lending.specs.Trace.{traceBuffers, TracesLent};
 ghost use Rattle.lending.specs.Host.{emptyImage, EmptiesImage, stepImage, Steps, orderOf, checkImage};
 ghost use Rattle.dock.specs.Version.{version};
 use image::IMAGE;
@@ -103,4 +104,18 @@ pub extern "C" fn dock_in_order(tables: &[u8]) -> u16
     ensures { λ r. ⌜ r ≡ orderOf (now (tables .entry)) ⌝ }
 {
     step::in_order(tables)
+}
+
+// The trace of a text of requests. Its length, 0 with a refusal, goes to `length`.
+#[no_mangle]
+pub extern "C" fn dock_trace(
+    tables: &mut [u8],
+    store: &mut [u8],
+    input: &[u8],
+    output: &mut [u8],
+    length: &mut usize,
+) -> u16
+    ensures { λ r. ⌜ TracesLent (traceBuffers (now (tables .entry)) (now (store .entry)) (now (input .entry)) (now (output .entry))) r (now (tables .exit)) (now (store .exit)) (now (output .exit)) (now (length .exit)) ⌝ }
+{
+    text_trace::trace_lent(tables, store, input, output, length)
 }

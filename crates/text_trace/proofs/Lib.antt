@@ -5,3 +5,4 @@ pub mod SameDock
 pub mod LineServed
 pub mod TraceSteps
 pub mod WholeTrace
+pub mod LentTrace

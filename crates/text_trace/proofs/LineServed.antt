@@ -1,34 +1,42 @@
--- One line's work: the request of a line in form is served by the inner step on the lent image and store, and one of another form changes
--- nothing.
+-- One line's work: the request of a line in form is served on the lent image and store, and one of another form changes nothing.
 use Prim.Native.Nat.{ℕ, _<_}
 use mathlib.Core.Path.{_≡_, refl, sym, ap, subst, _∙_}
-use mathlib.Core.Bool.{true, false, _&&_, cond}
+use mathlib.Core.Bool.{Bool, true, false, _&&_, cond}
 use mathlib.Core.List.{List}
 use lib.Dec.{eqb}
 use lib.ListN.{length, getD, replicate}
 use Rattle.lists.proofs.Tests.{Case, pass, fail, case}
 use Rattle.machine.specs.declared.Answer.{Answer}
 use Rattle.machine.specs.State.{State, Outcome, stateOf}
-use Rattle.machine.specs.Step.{serve}
+use Rattle.machine.specs.Step.{step}
 use Rattle.machine.specs.Sequence.{enter}
-use Rattle.preservation.proofs.StepKeepsOrder.{PassesTests, invariant-of, step-is-serve, step-keeps-tests}
+use Rattle.preservation.proofs.StepKeepsOrder.{PassesTests, step-keeps-tests}
 use Rattle.image.specs.Image.{encode, decode, isImage}
 use Rattle.image.proofs.RoundTrip.{encode-decode, encode-is-image}
 use Rattle.image_find.proofs.Laws.{decoded-sized}
 use Rattle.op_serve.specs.Contract.{LeavesLent}
+use Rattle.lending.specs.Trace.{dockOf}
 use Rattle.trace_texts.specs.Line.{inForm, sentBy, answerLine, firstByte, otherLine}
 use Rattle.trace_texts.specs.Trace.{servedBy, answerTo, leftByLine}
 use Rattle.text_trace.specs.declared.Asked.{Asked}
-use Rattle.text_trace.specs.Contract.{Reads, dockOf, Servable, LeavesDock}
+use Rattle.text_trace.specs.Contract.{Reads, Servable, LeavesDock}
 use Rattle.text_trace.proofs.AnswersLaws.{answer-served, answer-other, left-served, left-other}
 
 -- ---- an image that stays as it is
-pub same-image : (image : List ℕ) → ((j : ℕ) → getD image j 0 < 256) → (bytes : List ℕ) → Servable image bytes → image ≡ encode (decode image)
-same-image image small bytes ready = sym (encode-decode image small (ready .is))
+module _ (sure : Bool) (image bytes : List ℕ) (small : (j : ℕ) → getD image j 0 < 256) (ready : Servable sure image bytes) where
+  pub same-image : image ≡ encode (decode image)
+  same-image = sym (encode-decode image small (ready .is))
+
+  pub same-dock : LeavesDock (dockOf image bytes) image bytes
+  same-dock = record { tables = same-image; decoded = refl; store = refl }
+
+-- ---- a copy
+pub same-ready : {sure : Bool} {image bytes image′ bytes′ : List ℕ} → image′ ≡ image → bytes′ ≡ bytes → Servable sure image bytes → Servable sure image′ bytes′
+same-ready e f ready = rw (e, f) ready
 
 -- ---- in order from line to line
-pub passes : (image bytes : List ℕ) → Servable image bytes → PassesTests (decode image)
-passes image bytes ready = record { sized = decoded-sized image; order = ready .order; noFar = ready .noFar }
+passes : (image bytes : List ℕ) → Servable true image bytes → PassesTests (decode image)
+passes image bytes ready = record { sized = decoded-sized image; order = ready .order refl; noFar = ready .noFar refl }
 
 left-passes : (s : State) (line : List ℕ) → PassesTests (s .tables) → PassesTests (leftByLine s line .tables)
 unfolding enter
@@ -38,16 +46,17 @@ left-passes s line p = go (case (inForm line))
     go (pass e) = rw (left-served s line e) (step-keeps-tests (enter s (sentBy line)) (sentBy line .request) p)
     go (fail e) = rw (left-other s line e) p
 
-pub still-ready : (image bytes line image′ bytes′ : List ℕ) → Servable image bytes → LeavesDock (leftByLine (dockOf image bytes) line) image′ bytes′
-    → length bytes′ ≡ 16384 → Servable image′ bytes′
-still-ready image bytes line image′ bytes′ ready h long =
+pub still-ready : (sure : Bool) (image bytes line image′ bytes′ : List ℕ) → Servable sure image bytes
+    → LeavesDock (leftByLine (dockOf image bytes) line) image′ bytes′ → length bytes′ ≡ 16384 → Servable sure image′ bytes′
+still-ready sure image bytes line image′ bytes′ ready h long =
     let left = leftByLine (dockOf image bytes) line .tables in
-    let p : PassesTests (decode image′) =
-    subst PassesTests (sym (h .decoded)) (left-passes (dockOf image bytes) line (passes image bytes ready)) in
-    record { is = ap isImage (h .tables) ∙ encode-is-image left; order = p .order; noFar = p .noFar; store = long }
+    let p : sure ≡ true → PassesTests (decode image′) = λ e.
+    subst PassesTests (sym (h .decoded))
+    (left-passes (dockOf image bytes) line (passes image bytes (subst (λ (b : Bool). Servable b image bytes) e ready))) in
+    record { is = ap isImage (h .tables) ∙ encode-is-image left; order = λ e. p e .order; noFar = λ e. p e .noFar; store = long }
 
 -- ---- what the routine appends and leaves
-module _ (image bytes line : List ℕ) (number : ℕ) (ready : Servable image bytes) (a : Asked) (read : Reads line a) where
+module _ (image bytes line : List ℕ) (number : ℕ) (a : Asked) (read : Reads line a) where
   abbrev here : State
   here = dockOf image bytes
 
@@ -59,9 +68,8 @@ module _ (image bytes line : List ℕ) (number : ℕ) (ready : Servable image by
     pub other-text : answerTo number here line ≡ otherLine number
     other-text = answer-other number here line not-formed
 
-    pub other-holds : ((j : ℕ) → getD image j 0 < 256) → LeavesDock (leftByLine here line) image bytes
-    other-holds small =
-        rw (left-other here line not-formed) (record { tables = same-image image small bytes ready; decoded = refl; store = refl })
+    pub other-holds : LeavesDock here image bytes → LeavesDock (leftByLine here line) image bytes
+    other-holds h = rw (left-other here line not-formed) h
 
   -- a line in form
   module _ (e : a .formed ≡ true) where
@@ -76,18 +84,14 @@ module _ (image bytes line : List ℕ) (number : ℕ) (ready : Servable image by
     unfolding sentBy
     sheet-is = ap (λ (n : ℕ). replicate 64 n) (read .fill formed)
 
-    -- the public step is the inner one
-    inner : serve (stateOf (decode image) bytes (replicate 64 (a .fill))) (a .request) ≡ servedBy here line
+    same-step : step (stateOf (decode image) bytes (replicate 64 (a .fill))) (a .request) ≡ servedBy here line
     unfolding enter
-    inner =
-        (λ i. serve (stateOf (decode image) bytes (sheet-is i)) (request-is i))
-        ∙ sym (step-is-serve (enter here (sentBy line)) (sentBy line .request) (invariant-of (decode image) (passes image bytes ready) .order)
-        (ready .store) (sentBy line .whole))
+    same-step i = step (stateOf (decode image) bytes (sheet-is i)) (request-is i)
 
     module _ (answer : Answer) (image′ bytes′ sheet′ : List ℕ)
-        (leaves : LeavesLent (serve (stateOf (decode image) bytes (replicate 64 (a .fill))) (a .request)) answer image′ bytes′ sheet′) where
+        (leaves : LeavesLent (step (stateOf (decode image) bytes (replicate 64 (a .fill))) (a .request)) answer image′ bytes′ sheet′) where
       served : LeavesLent (servedBy here line) answer image′ bytes′ sheet′
-      served = subst (λ (o : Outcome). LeavesLent o answer image′ bytes′ sheet′) inner leaves
+      served = subst (λ (o : Outcome). LeavesLent o answer image′ bytes′ sheet′) same-step leaves
 
       pub served-text : (byte : ℕ) → byte ≡ cond (eqb (a .request .op) 5 && eqb (answer .result) 0) (getD sheet′ 0 0) 0
           → answerTo number here line ≡ answerLine number answer byte

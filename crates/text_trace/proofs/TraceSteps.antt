@@ -3,6 +3,7 @@
 use Prim.Native.Nat.{ℕ, suc, _+_, _-_, _≤_, _<_}
 use native.Mathlib.Omega.{arith}
 use mathlib.Core.Path.{_≡_, refl, sym, ap, _∙_}
+use mathlib.Core.Bool.{Bool}
 use mathlib.Core.List.{List, [], _∷_, _++_}
 use lib.Dec.{eqb}
 use lib.ListN.{length, getD, take, drop, length-append, length-drop, drop-of-length-le}
@@ -17,7 +18,8 @@ use Rattle.text.specs.Appending.{Appends, Countable}
 use Rattle.text.proofs.ReadingLaws.{upTo, lines-first, lines-none}
 use Rattle.text.proofs.Appending.{append-as, append-none, append-both}
 use Rattle.trace_texts.specs.Trace.{answerTo, leftByLine, answers, afterLines}
-use Rattle.text_trace.specs.Contract.{dockOf, Servable, LinesFrom, LeavesDock}
+use Rattle.lending.specs.Trace.{dockOf}
+use Rattle.text_trace.specs.Contract.{Servable, LinesFrom, LeavesDock}
 use Rattle.text_trace.proofs.AnswersLaws.{answers-none, answers-more, after-none, after-more}
 use Rattle.text_trace.proofs.SameDock.{SameDock, same-trans, same-sym, same-of, same-answers, same-after}
 use Rattle.text_trace.proofs.LineServed.{same-image, still-ready}
@@ -29,10 +31,10 @@ restOf s input from done = answers (done + 1) s (lines (drop from input))
 abbrev pub endOf : State → List ℕ → ℕ → State
 endOf s input from = afterLines s (lines (drop from input))
 
-pub record Going (s₀ : State) (input : List ℕ) (start : ℕ) (before : List ℕ) (at : ℕ) (image bytes out : List ℕ) (from done total : ℕ) : Type 0 where
+pub record Going (s₀ : State) (sure : Bool) (input : List ℕ) (start : ℕ) (before : List ℕ) (at : ℕ) (image bytes out : List ℕ) (from done total : ℕ) : Type 0 where
   pub inside : from ≤ length input + 1
   pub counted : done < from
-  pub ready : Servable image bytes
+  pub ready : Servable sure image bytes
   pub encoded : image ≡ encode (decode image)
   pub kept : length out ≡ length before
   pub bound : Countable total (restOf (dockOf image bytes) input from done)
@@ -40,22 +42,22 @@ pub record Going (s₀ : State) (input : List ℕ) (start : ℕ) (before : List 
       → Appends (restOf s₀ input start 0) before after at r
   pub left : SameDock (endOf (dockOf image bytes) input from) (endOf s₀ input start)
 
-pub begins : (image bytes input : List ℕ) (start : ℕ) (out : List ℕ) (at : ℕ) → ((j : ℕ) → getD image j 0 < 256) → Servable image bytes
+pub begins : (sure : Bool) (image bytes input : List ℕ) (start : ℕ) (out : List ℕ) (at : ℕ) → ((j : ℕ) → getD image j 0 < 256) → Servable sure image bytes
     → LinesFrom start input → Countable at (restOf (dockOf image bytes) input start 0)
-    → Going (dockOf image bytes) input start out at image bytes out start 0 at
-begins image bytes input start out at small ready behind bound = record {
+    → Going (dockOf image bytes) sure input start out at image bytes out start 0 at
+begins sure image bytes input start out at small ready behind bound = record {
   inside = behind .inside;
   counted = behind .first;
   ready = ready;
-  encoded = same-image image small bytes ready;
+  encoded = same-image sure image bytes small ready;
   kept = refl;
   bound = bound;
   rest = λ after r a. a;
   left = same-of _ _ refl;
 }
 
-module _ (s₀ : State) (input : List ℕ) (start : ℕ) (before : List ℕ) (at : ℕ) (image bytes out : List ℕ) (from done total : ℕ)
-    (g : Going s₀ input start before at image bytes out from done total) where
+module _ (s₀ : State) (sure : Bool) (input : List ℕ) (start : ℕ) (before : List ℕ) (at : ℕ) (image bytes out : List ℕ) (from done total : ℕ)
+    (g : Going s₀ sure input start before at image bytes out from done total) where
   abbrev here : State
   here = dockOf image bytes
 
@@ -106,7 +108,7 @@ module _ (s₀ : State) (input : List ℕ) (start : ℕ) (before : List ℕ) (at
 
     pub next : (image′ bytes′ out′ : List ℕ) (total′ : ℕ) → Appends (answerTo (done + 1) here lineHere) out out′ total total′
         → LeavesDock (leftByLine here lineHere) image′ bytes′ → length bytes′ ≡ length bytes
-        → Going s₀ input start before at image′ bytes′ out′ (from + k + 1) (done + 1) total′
+        → Going s₀ sure input start before at image′ bytes′ out′ (from + k + 1) (done + 1) total′
     next image′ bytes′ out′ total′ put h long =
         let text = answerTo (done + 1) here lineHere in
         let there = dockOf image′ bytes′ in
@@ -121,7 +123,7 @@ module _ (s₀ : State) (input : List ℕ) (start : ℕ) (before : List ℕ) (at
         record {
           inside = omega (arith, line-inside);
           counted = omega (arith, g .counted);
-          ready = still-ready image bytes lineHere image′ bytes′ (g .ready) h (long ∙ g .ready .store);
+          ready = still-ready sure image bytes lineHere image′ bytes′ (g .ready) h (long ∙ g .ready .store);
           encoded = h .tables ∙ ap encode (sym (h .decoded));
           kept = put .kept ∙ g .kept;
           bound = omega (arith, g .bound, put .total, whole-long);

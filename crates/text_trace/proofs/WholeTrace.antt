@@ -11,6 +11,7 @@ use borrow.Author.Tests.{le-leb, lt-leb}
 use Rattle.lists.proofs.Tests.{and-false}
 use Rattle.lists.proofs.Search.{first-within}
 use Rattle.tables.specs.Names.{emptyTables}
+use Rattle.machine.specs.State.{State}
 use Rattle.machine.specs.Empty.{emptyStore, emptyDock}
 use Rattle.preservation.proofs.EmptyDockInOrder.{empty-sized, empty-invariant}
 use Rattle.preservation.proofs.StepKeepsOrder.{PassesTests, tests-of}
@@ -29,26 +30,31 @@ use Rattle.text.proofs.NamesLaws.{lines-behind}
 use Rattle.text.proofs.WritingLaws.{writes-fits}
 use Rattle.text.proofs.Appending.{append-as, append-both}
 use Rattle.trace_texts.specs.Line.{otherLine}
-use Rattle.trace_texts.specs.Trace.{longestInput, traceRoom, inputNames, outputNames, answers, inputOk, traceFrom, trace}
-use Rattle.text_trace.specs.Contract.{dockOf, Servable}
+use Rattle.trace_texts.specs.Trace.{longestInput, traceRoom, inputNames, outputNames, answers, afterLines, inputOk, traceFrom, afterTrace, trace}
+use Rattle.lending.specs.Trace.{dockOf}
+use Rattle.text_trace.specs.Contract.{Servable, LeavesDock}
 use Rattle.text_trace.proofs.AnswerLine.{other-short}
-use Rattle.text_trace.proofs.AnswersLaws.{answers-fit, trace-short}
+use Rattle.text_trace.proofs.AnswersLaws.{answers-fit, trace-short-from}
 
 -- ---- the emptied dock, as an image and a store of zeros
 zeros-tables : decode (replicate imageSize 0) ≡ emptyTables
 zeros-tables = zeros-empty empty-sized
 
-pub zeros-dock : dockOf (replicate imageSize 0) (replicate 16384 0) ≡ emptyDock
+zeros-dock : dockOf (replicate imageSize 0) (replicate 16384 0) ≡ emptyDock
 unfolding emptyDock
 zeros-dock i = record { tables = zeros-tables i; store = emptyStore; sheet = replicate 64 0 }
 
-pub zeros-ready : Servable (replicate imageSize 0) (replicate 16384 0)
+pub from-zeros : (input : List ℕ) {before after : List ℕ} {r : ℕ}
+    → Writes (traceFrom (dockOf (replicate imageSize 0) (replicate 16384 0)) input) before after r → Writes (trace input) before after r
+from-zeros input {before} {after} {r} w = subst (λ (s : State). Writes (traceFrom s input) before after r) zeros-dock w
+
+pub zeros-ready : Servable true (replicate imageSize 0) (replicate 16384 0)
 zeros-ready =
     let p : PassesTests (decode (replicate imageSize 0)) = subst PassesTests (sym zeros-tables) (tests-of emptyTables empty-invariant) in
     record {
       is = ap isImage (sym empty-zeros) ∙ encode-is-image emptyTables;
-      order = p .order;
-      noFar = p .noFar;
+      order = λ e. p .order;
+      noFar = λ e. p .noFar;
       store = length-replicate {A = ℕ} 16384 0;
     }
 
@@ -93,35 +99,44 @@ module _ (out middle : List ℕ) (at : ℕ) (names : Appends namesLine out middl
   pub refused-fits : Countable at (otherLine 0)
   refused-fits = omega (arith, names-end, other-short 0)
 
-  module _ (input after : List ℕ) (answer : ℕ) where
-    pub refused-trace : inputOk input ≡ false → Appends (otherLine 0) middle after at answer → Appends (trace input) out after 0 answer
+  module _ (s : State) (input after : List ℕ) (answer : ℕ) where
+    pub refused-trace : inputOk input ≡ false → Appends (otherLine 0) middle after at answer → Appends (traceFrom s input) out after 0 answer
     unfolding traceFrom
     refused-trace e put =
         rw e (append-as _ _ out after 0 answer (append-snoc outputNames lineEnd (otherLine 0))
         (append-both namesLine (otherLine 0) out middle after 0 at answer names put))
 
-    pub served-trace : inputOk input ≡ true → Appends (answers 1 emptyDock (behindNames (lines input))) middle after at answer
-        → Appends (trace input) out after 0 answer
+    pub served-trace : inputOk input ≡ true → Appends (answers 1 s (behindNames (lines input))) middle after at answer
+        → Appends (traceFrom s input) out after 0 answer
     unfolding traceFrom
     served-trace e put =
-        let served = answers 1 emptyDock (behindNames (lines input)) in
+        let served = answers 1 s (behindNames (lines input)) in
         rw e (append-as _ _ out after 0 answer (append-snoc outputNames lineEnd served)
         (append-both namesLine served out middle after 0 at answer names put))
 
--- ---- the answers from zeros on
-module _ (input : List ℕ) (first : FirstLine) (told : first ≡ firstLineOf inputNames input) where
-  pub served-answers : answers 1 emptyDock (behindNames (lines input))
-      ≡ answers 1 (dockOf (replicate imageSize 0) (replicate 16384 0)) (lines (drop (first .end + 1) input))
-  served-answers i = answers 1 (sym zeros-dock i) (behind-first input first told i)
+-- ---- behind the names
+module _ (s : State) (input : List ℕ) where
+  module _ (first : FirstLine) (told : first ≡ firstLineOf inputNames input) where
+    pub served-answers : answers 1 s (behindNames (lines input)) ≡ answers 1 s (lines (drop (first .end + 1) input))
+    served-answers = ap (answers 1 s) (behind-first input first told)
 
-  pub served-fits : (at : ℕ) → at ≡ 34 → inputOk input ≡ true
-      → Countable at (answers 1 (dockOf (replicate imageSize 0) (replicate 16384 0)) (lines (drop (first .end + 1) input)))
-  served-fits at e ok =
-      subst (Countable at) served-answers (omega (arith, e, answers-fit input ok))
+    pub served-fits : (at : ℕ) → at ≡ 34 → inputOk input ≡ true → Countable at (answers 1 s (lines (drop (first .end + 1) input)))
+    served-fits at e ok = subst (Countable at) served-answers (omega (arith, e, answers-fit s input ok))
+
+    -- the dock that is left
+    pub served-leaves : {image bytes : List ℕ} → inputOk input ≡ true → LeavesDock (afterLines s (lines (drop (first .end + 1) input))) image bytes
+        → LeavesDock (afterTrace s input) image bytes
+    unfolding afterTrace
+    served-leaves {image} {bytes} ok h =
+        rw ok (subst (λ (ls : List (List ℕ)). LeavesDock (afterLines s ls) image bytes) (sym (behind-first input first told)) h)
+
+  pub refused-leaves : {image bytes : List ℕ} → inputOk input ≡ false → LeavesDock s image bytes → LeavesDock (afterTrace s input) image bytes
+  unfolding afterTrace
+  refused-leaves e h = rw e h
 
 -- ---- an output of `traceRoom` bytes takes every trace
 pub whole-in-buffer : (input before after : List ℕ) (r : ℕ) → length before ≡ traceRoom → Writes (trace input) before after r
     → take r after ≡ trace input
 whole-in-buffer input before after r long w =
-    let (output, total) = writes-fits (trace input) before after r (omega (arith, trace-short input)) w in
+    let (output, total) = writes-fits (trace input) before after r (omega (arith, trace-short-from emptyDock input)) w in
     ap (take r) output ∙ take-at (trace input) (drop (length (trace input)) before) r (sym total)

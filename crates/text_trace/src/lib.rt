@@ -1,5 +1,5 @@
-// The trace: a text of requests in, a text of answers out. It starts from an emptied dock and keeps the tables' image to itself, so it calls the
-// inner step and pays for no order test; its contract speaks of the public one.
+// The trace: a text of requests in, a text of answers out; from an emptied dock of its own, or over the one that a host lends. Where the
+// tables are sure to stay in order, no line pays for a test of that.
 ghost use Prim.Native.Nat.{_<_};
 ghost use mathlib.Core.Path.{_≡_};
 ghost use mathlib.Core.Bool.{_&&_, cond};
@@ -10,7 +10,8 @@ ghost use Rattle.text.specs.Writing.{Writes};
 ghost use Rattle.text.specs.Appending.{Appends, Countable};
 ghost use Rattle.trace_texts.specs.Line.{fillOk, answerLine, otherLine};
 ghost use Rattle.trace_texts.specs.Trace as spec;
-ghost use Rattle.text_trace.specs.Contract.{Reads, dockOf, Servable, LinesFrom, LeavesDock};
+ghost use Rattle.lending.specs.Trace.{dockOf, traceBuffers, TracesLent};
+ghost use Rattle.text_trace.specs.Contract.{Reads, Servable, LinesFrom, LeavesDock};
 use image::IMAGE;
 use machine::Answer;
 use machine::Request;
@@ -118,12 +119,13 @@ fn append_other(out: &mut [u8], at: usize, number: u16) -> usize
 fn serve_line(
     tables: &mut [u8],
     store: &mut [u8],
+    sure: bool,
     line: &[u8],
     number: u16,
     out: &mut [u8],
     at: usize,
 ) -> usize
-    requires { ⌜ Servable (now tables) (now store) × Countable at (spec.answerTo number (dockOf (now tables) (now store)) (now line)) ⌝ }
+    requires { ⌜ Servable sure (now tables) (now store) × Countable at (spec.answerTo number (dockOf (now tables) (now store)) (now line)) ⌝ }
     ensures { λ r. ⌜ Appends (spec.answerTo number (dockOf (now (tables .entry)) (now (store .entry))) (now (line .entry))) (now (out .entry)) (now (out .exit)) at r ⌝ }
     ensures { λ _. ⌜ LeavesDock (spec.leftByLine (dockOf (now (tables .entry)) (now (store .entry))) (now (line .entry))) (now (tables .exit)) (now (store .exit)) ⌝ }
 {
@@ -134,7 +136,7 @@ fn serve_line(
     let r = a.request;
     let fill = a.fill;
     let mut sheet = [fill; SHEET];
-    let answer = op_serve::request(tables, store, &mut sheet, r);
+    let answer = batch::serve_one(tables, store, &mut sheet, r, sure);
     let byte = first_byte(r.op, answer.result, &sheet);
     append_answer(out, at, number, answer, byte)
 }
@@ -143,12 +145,13 @@ fn serve_line(
 pub fn serve_lines(
     tables: &mut [u8],
     store: &mut [u8],
+    sure: bool,
     input: &[u8],
     start: usize,
     out: &mut [u8],
     at: usize,
 ) -> usize
-    requires { ⌜ Servable (now tables) (now store) × (LinesFrom start (now input) × Countable at (spec.answers 1 (dockOf (now tables) (now store)) (lines (drop start (now input))))) ⌝ }
+    requires { ⌜ Servable sure (now tables) (now store) × (LinesFrom start (now input) × Countable at (spec.answers 1 (dockOf (now tables) (now store)) (lines (drop start (now input))))) ⌝ }
     ensures { λ r. ⌜ Appends (spec.answers 1 (dockOf (now (tables .entry)) (now (store .entry))) (lines (drop start (now (input .entry))))) (now (out .entry)) (now (out .exit)) at r ⌝ }
     ensures { λ _. ⌜ LeavesDock (spec.afterLines (dockOf (now (tables .entry)) (now (store .entry))) (lines (drop start (now (input .entry))))) (now (tables .exit)) (now (store .exit)) ⌝ }
 {
@@ -158,7 +161,7 @@ pub fn serve_lines(
     while from < input.len() {
         let end = from + text::find(&input[from..], LINE_END);
         let number = done + 1;
-        total = serve_line(tables, store, &input[from..end], number, out, total);
+        total = serve_line(tables, store, sure, &input[from..end], number, out, total);
         done = number;
         from = end + 1;
     }
@@ -167,9 +170,11 @@ pub fn serve_lines(
 
 // ---- the whole
 
-// The whole trace goes to the front of the output, if it has room there. Its length counts in any case. Zeros are the emptied dock.
-fn put_trace(input: &[u8], out: &mut [u8]) -> usize
-    ensures { λ r. ⌜ Appends (spec.trace (now (input .entry))) (now (out .entry)) (now (out .exit)) 0 r ⌝ }
+// The whole trace goes to the front of the output, if it has room there. Its length counts in any case.
+fn put_trace(tables: &mut [u8], store: &mut [u8], sure: bool, input: &[u8], out: &mut [u8]) -> usize
+    requires { ⌜ Servable sure (now tables) (now store) ⌝ }
+    ensures { λ r. ⌜ Appends (spec.traceFrom (dockOf (now (tables .entry)) (now (store .entry))) (now (input .entry))) (now (out .entry)) (now (out .exit)) 0 r ⌝ }
+    ensures { λ _. ⌜ LeavesDock (spec.afterTrace (dockOf (now (tables .entry)) (now (store .entry))) (now (input .entry))) (now (tables .exit)) (now (store .exit)) ⌝ }
 {
     let at = text::append(out, 0, b"line result ticket recipient byte\n");
     if LONGEST < input.len() {
@@ -182,33 +187,78 @@ fn put_trace(input: &[u8], out: &mut [u8]) -> usize
     if !first.ok {
         return append_other(out, at, 0);
     }
-    let start = first.end + 1;
-    let mut tables = [0u8; IMAGE];
-    let mut store = [0u8; STORE];
-    serve_lines(&mut tables, &mut store, input, start, out, at)
+    serve_lines(tables, store, sure, input, first.end + 1, out, at)
 }
 
-// Does the trace fit into so many bytes? Where that is not known beforehand it is run once to no output, for its length.
-fn fits(input: &[u8], room: usize) -> bool
-    ensures { λ r. ⌜ r ≡ leb (length (spec.trace (now (input .entry)))) room ⌝ }
+// `to` becomes `from`.
+fn copy(from: &[u8], to: &mut [u8])
+    requires { ⌜ length (now to) ≡ length (now from) ⌝ }
+    ensures { λ _. ⌜ now (to .exit) ≡ now (from .entry) ⌝ }
+{
+    let mut i: usize = 0;
+    while i < from.len() {
+        to[i] = from[i];
+        i = i + 1;
+    }
+}
+
+// Does the trace fit into so many bytes? Where that is not known beforehand it is run once on a copy of the dock, to no output, for its
+// length.
+fn fits(tables: &[u8], store: &[u8], sure: bool, input: &[u8], room: usize) -> bool
+    requires { ⌜ Servable sure (now tables) (now store) ⌝ }
+    ensures { λ r. ⌜ r ≡ leb (length (spec.traceFrom (dockOf (now (tables .entry)) (now (store .entry))) (now (input .entry)))) room ⌝ }
 {
     if ROOM <= room {
         return true;
     }
+    let mut image = [0u8; IMAGE];
+    let mut sheets = [0u8; STORE];
+    copy(tables, &mut image);
+    copy(store, &mut sheets);
     let mut nothing = [0u8; 1];
-    let total = put_trace(input, &mut nothing[..0]);
+    let total = put_trace(&mut image, &mut sheets, sure, input, &mut nothing[..0]);
     total <= room
 }
 
 // The trace of the input goes to the front of the output, and its length comes back. An output too short for the whole is refused: it
-// stays as it is, and the length is 0.
+// stays as it is, and the length is 0. Zeros are the emptied dock.
 pub fn trace(input: &[u8], out: &mut [u8]) -> usize
     ensures { λ r. ⌜ Writes (spec.trace (now (input .entry))) (now (out .entry)) (now (out .exit)) r ⌝ }
 {
-    if !fits(input, out.len()) {
+    let mut tables = [0u8; IMAGE];
+    let mut store = [0u8; STORE];
+    if !fits(&tables, &store, true, input, out.len()) {
         return 0;
     }
-    put_trace(input, out)
+    put_trace(&mut tables, &mut store, true, input, out)
+}
+
+// The trace over a lent dock: 13, 14, 17 where the output is too short for the whole, or 0. A refusal changes nothing, and the length is 0.
+pub fn trace_lent(
+    tables: &mut [u8],
+    store: &mut [u8],
+    input: &[u8],
+    output: &mut [u8],
+    length: &mut usize,
+) -> u16
+    ensures { λ r. ⌜ TracesLent (traceBuffers (now (tables .entry)) (now (store .entry)) (now (input .entry)) (now (output .entry))) r (now (tables .exit)) (now (store .exit)) (now (output .exit)) (now (length .exit)) ⌝ }
+{
+    *length = 0;
+    if tables.len() != IMAGE {
+        return 13;
+    }
+    if store.len() != STORE {
+        return 13;
+    }
+    if !order::image_in_order(tables) {
+        return 14;
+    }
+    let sure = order::no_far_child(tables);
+    if !fits(tables, store, sure, input, output.len()) {
+        return 17;
+    }
+    *length = put_trace(tables, store, sure, input, output);
+    0
 }
 
 // An output that every trace fits into.

@@ -1,16 +1,17 @@
 -- The names go to the front; behind them goes one line for an input that is refused, or the answers to the lines behind its names.
-use Prim.Native.Nat.{ℕ, _≤_}
+use Prim.Native.Nat.{_≤_}
 use native.Mathlib.Omega.{arith}
 use mathlib.Core.Path.{sym}
-use lib.ListN.{length, length-replicate}
+use lib.ListN.{length}
 use borrow.Author.Needs.{needs}
 use borrow.Author.Tests.{not-true, not-false}
-use Rattle.image.specs.Layout.{imageSize}
+use Rattle.lending.specs.Trace.{dockOf}
 use Rattle.text.specs.Bytes.{bytes}
 use Rattle.text.proofs.Appending.{append-as}
 use Rattle.trace_texts.specs.Trace.{longestInput, inputNames, outputNames}
-use Rattle.text_trace.proofs.WholeTrace.{zeros-ready, too-long, other-names, is-ok, end-inside}
-use Rattle.text_trace.proofs.WholeTrace.{names-end, refused-fits, refused-trace, served-trace, served-answers, served-fits}
+use Rattle.text_trace.proofs.LineServed.{same-dock}
+use Rattle.text_trace.proofs.WholeTrace.{too-long, other-names, is-ok, end-inside, names-end, refused-fits, refused-trace, served-trace}
+use Rattle.text_trace.proofs.WholeTrace.{served-answers, served-fits, served-leaves, refused-leaves}
 use Rattle.text_trace.proofs.put_trace.Statement.{statement}
 use Rattle.text_trace.proofs.put_trace.Tie as tie
 
@@ -22,9 +23,7 @@ append-requires c κs = search needs
 
 append-other-requires : tie.Need-append-other-requires
 unfolding outputNames bytes
-append-other-requires c κs =
-    let c4 = c .before .before .before .before in
-    refused-fits _ _ _ (c4 .append .ensures)
+append-other-requires c κs = refused-fits _ _ _ (c .before .before .before .before .append .ensures)
 
 same-length : tie.Need-same-length
 same-length c = search needs
@@ -32,11 +31,13 @@ same-length c = search needs
 returns : tie.Need-returns
 unfolding outputNames bytes
 returns c =
-    let c4 = c .before .before .before .before in
-    let c7 = c4 .before .before .before in
-    let c12 = c7 .before .before .before .before .before in
-    let input = c12 .args .input .now in
-    refused-trace _ _ _ (c7 .append .ensures) input _ _ (too-long input (c4 .if1 .taken)) (c .before .before .append-other .ensures)
+    let a = c .before .before .before .before .before .before .before .before .before .before .before .before .before .before .args in
+    let input = a .input .now in
+    let here = dockOf (a .tables .now) (a .store .now) in
+    let bad = too-long input (c .before .before .before .before .if1 .taken) in (
+      refused-trace _ _ _ (c .before .before .before .before .before .before .before .append .ensures) here input _ _ bad (c .before .before .append-other .ensures),
+      refused-leaves here input bad (same-dock (a .sure) _ _ (λ j. omega (arith, c .before .before .before .before .before .before .before .before .before .before .before .before .before .slice-known .given j)) (c .before .before .before .before .before .before .before .before .before .before .before .before .before .before .pre)),
+    )
 
 slice-aggregate-first-line : tie.Need-slice-aggregate-first-line
 slice-aggregate-first-line c = search needs
@@ -46,9 +47,7 @@ first-line-requires c κs = search needs
 
 append-other-requires-2 : tie.Need-append-other-requires-2
 unfolding outputNames bytes
-append-other-requires-2 c κs =
-    let c8 = c .before .before .before .before .before .before .before .before in
-    refused-fits _ _ _ (c8 .append .ensures)
+append-other-requires-2 c κs = refused-fits _ _ _ (c .before .before .before .before .before .before .before .before .append .ensures)
 
 same-length-2 : tie.Need-same-length-2
 same-length-2 c = search needs
@@ -56,63 +55,55 @@ same-length-2 c = search needs
 returns-2 : tie.Need-returns-2
 unfolding outputNames inputNames bytes
 returns-2 c =
-    let c4 = c .before .before .before .before in
-    let c6 = c4 .before .before in
-    let c11 = c6 .before .before .before .before .before in
-    let c16 = c11 .before .before .before .before .before in
-    let input = c16 .args .input .now in
-    refused-trace _ _ _ (c11 .append .ensures) input _ _ (other-names input _ (c6 .first-line .ensures) (not-true _ (c4 .if2 .taken))) (c .before .before .append-other2 .ensures)
+    let a = c .before .before .before .before .before .before .before .before .before .before .before .before .before .before .before .before .before .before .args in
+    let input = a .input .now in
+    let here = dockOf (a .tables .now) (a .store .now) in
+    let bad = other-names input _ (c .before .before .before .before .before .before .first-line .ensures) (not-true _ (c .before .before .before .before .if2 .taken)) in (
+      refused-trace _ _ _ (c .before .before .before .before .before .before .before .before .before .before .before .append .ensures) here input _ _ bad (c .before .before .append-other2 .ensures),
+      refused-leaves here input bad (same-dock (a .sure) _ _ (λ j. omega (arith, c .before .before .before .before .before .before .before .before .before .before .before .before .before .before .before .before .before .slice-known .given j)) (c .before .before .before .before .before .before .before .before .before .before .before .before .before .before .before .before .before .before .pre)),
+    )
 
-add-start : tie.Need-add-start
+add-serve-lines : tie.Need-add-serve-lines
 unfolding inputNames bytes
-add-start c =
-    let c3 = c .before .before .before in
-    let c13 = c3 .before .before .before .before .before .before .before .before .before .before in
-    omega (arith, end-inside (c13 .args .input .now) _ (c3 .first-line .ensures))
-
-slice-aggregate-serve-lines : tie.Need-slice-aggregate-serve-lines
-slice-aggregate-serve-lines c = sym (length-replicate {A = ℕ} imageSize 0)
-
-slice-aggregate-serve-lines-2 : tie.Need-slice-aggregate-serve-lines-2
-slice-aggregate-serve-lines-2 c = sym (length-replicate {A = ℕ} 16384 0)
+add-serve-lines c = omega (arith, end-inside (c .before .before .before .before .before .before .before .before .before .before .before .before .before .before .before .before .before .args .input .now) _ (c .before .before .before .before .before .first-line .ensures))
 
 serve-lines-requires : tie.Need-serve-lines-requires
 unfolding outputNames inputNames bytes
 serve-lines-requires c κs =
-    let c4 = c .before .before .before .before in
-    let c6 = c4 .before .before in
-    let c8 = c6 .before .before in
-    let c11 = c8 .before .before .before in
-    let c16 = c11 .before .before .before .before .before in
-    let input = c16 .args .input .now in
-    let short : length input ≤ longestInput = omega (arith, c8 .if1 .left) in
-    let told = c6 .first-line .ensures in
-    let ok = is-ok input _ told short (not-false _ (c4 .if2 .left)) in (
-      zeros-ready,
+    let a = c .before .before .before .before .before .before .before .before .before .before .before .before .before .before .before .before .before .before .args in
+    let input = a .input .now in
+    let short : length input ≤ longestInput = omega (arith, c .before .before .before .before .before .before .before .before .if1 .left) in
+    let told = c .before .before .before .before .before .before .first-line .ensures in
+    let ok = is-ok input _ told short (not-false _ (c .before .before .before .before .if2 .left)) in (
+      c .before .before .before .before .before .before .before .before .before .before .before .before .before .before .before .before .before .before .pre,
       (
         record { short = short; first = omega arith; inside = omega (arith, end-inside input _ told) },
-        served-fits input _ told _ (names-end _ _ _ (c11 .append .ensures)) ok,
+        served-fits (dockOf (a .tables .now) (a .store .now)) input _ told _ (names-end _ _ _ (c .before .before .before .before .before .before .before .before .before .before .before .append .ensures)) ok,
       ),
     )
 
 same-length-3 : tie.Need-same-length-3
 same-length-3 c = search needs
 
+same-length-4 : tie.Need-same-length-4
+same-length-4 c = search needs
+
+same-length-5 : tie.Need-same-length-5
+same-length-5 c = search needs
+
 returns-3 : tie.Need-returns-3
 unfolding outputNames inputNames bytes
 returns-3 c =
-    let c4 = c .before .before .before .before in
-    let c9 = c4 .before .before .before .before .before in
-    let c11 = c9 .before .before in
-    let c13 = c11 .before .before in
-    let c16 = c13 .before .before .before in
-    let c21 = c16 .before .before .before .before .before in
-    let input = c21 .args .input .now in
-    let short : length input ≤ longestInput = omega (arith, c13 .if1 .left) in
-    let told = c11 .first-line .ensures in
-    let ok = is-ok input _ told short (not-false _ (c9 .if2 .left)) in
-    served-trace _ _ _ (c16 .append .ensures) input _ _ ok
-    (append-as _ _ _ _ _ _ (sym (served-answers input _ told)) (c4 .serve-lines .ensures .0))
+    let a = c .before .before .before .before .before .before .before .before .before .before .before .before .before .before .before .before .before .before .before .before .before .before .before .before .before .args in
+    let input = a .input .now in
+    let here = dockOf (a .tables .now) (a .store .now) in
+    let short : length input ≤ longestInput = omega (arith, c .before .before .before .before .before .before .before .before .before .before .before .before .before .before .before .if1 .left) in
+    let told = c .before .before .before .before .before .before .before .before .before .before .before .before .before .first-line .ensures in
+    let ok = is-ok input _ told short (not-false _ (c .before .before .before .before .before .before .before .before .before .before .before .if2 .left)) in
+    let lines = c .before .before .before .before .before .before .serve-lines .ensures in (
+      served-trace _ _ _ (c .before .before .before .before .before .before .before .before .before .before .before .before .before .before .before .before .before .before .append .ensures) here input _ _ ok (append-as _ _ _ _ _ _ (sym (served-answers here input _ told)) (lines .0)),
+      served-leaves here input _ told ok (lines .1),
+    )
 
 pub put-trace-spec : {M : Type 1} → statement M
 put-trace-spec =
@@ -128,9 +119,9 @@ put-trace-spec =
     append-other-requires-2
     same-length-2
     returns-2
-    add-start
-    slice-aggregate-serve-lines
-    slice-aggregate-serve-lines-2
+    add-serve-lines
     serve-lines-requires
     same-length-3
+    same-length-4
+    same-length-5
     returns-3)

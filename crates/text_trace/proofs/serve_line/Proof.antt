@@ -7,7 +7,7 @@ use borrow.Author.Needs.{needs}
 use borrow.Author.Tests.{not-true, not-false}
 use Rattle.text.specs.Appending.{Countable}
 use Rattle.text.proofs.Appending.{append-as}
-use Rattle.text_trace.proofs.LineServed.{other-text, other-holds, served-text, served-holds}
+use Rattle.text_trace.proofs.LineServed.{same-dock, other-text, other-holds, served-text, served-holds}
 use Rattle.text_trace.proofs.serve_line.Statement.{statement}
 use Rattle.text_trace.proofs.serve_line.Tie as tie
 
@@ -20,7 +20,7 @@ append-other-requires c κs =
     let c8 = c3 .before .before .before .before .before in
     let a = c8 .args in
     let p = c8 .pre in
-    let text = other-text (a .tables .now) (a .store .now) (a .line .now) (a .number) (p .0) _ (c3 .read-line .ensures) (not-true _ (c .before .if1 .taken)) in
+    let text = other-text (a .tables .now) (a .store .now) (a .line .now) (a .number) _ (c3 .read-line .ensures) (not-true _ (c .before .if1 .taken)) in
     subst (Countable (a .at)) text (p .1)
 
 same-length : tie.Need-same-length
@@ -38,20 +38,21 @@ returns c =
     let bytes = a .store .now in
     let line = a .line .now in
     let other = not-true _ (c4 .if1 .taken) in
-    let text = other-text image bytes line (a .number) (p .0) _ (c6 .read-line .ensures) other in (
+    let text = other-text image bytes line (a .number) _ (c6 .read-line .ensures) other in (
       append-as _ _ _ _ _ _ (sym text) (c .before .before .append-other .ensures),
-      other-holds image bytes line (a .number) (p .0) _ (c6 .read-line .ensures) other (λ j. omega (arith, c10 .slice-known .given j)),
+      other-holds image bytes line (a .number) _ (c6 .read-line .ensures) other
+          (same-dock (a .sure) image bytes (λ j. omega (arith, c10 .slice-known .given j)) (p .0)),
     )
 
-slice-aggregate-request : tie.Need-slice-aggregate-request
-slice-aggregate-request c = search needs
+slice-aggregate-serve-one : tie.Need-slice-aggregate-serve-one
+slice-aggregate-serve-one c = search needs
 
-request-requires : tie.Need-request-requires
-request-requires c κs =
+serve-one-requires : tie.Need-serve-one-requires
+serve-one-requires c κs =
     let c6 = c .before .before .before .before .before .before in
     let c11 = c6 .before .before .before .before .before in
     let p = c11 .pre .0 in
-    record { is = p .is; order = p .order; lengths = record { store = p .store; sheet = length-replicate {A = ℕ} 64 (c6 .read-line .result .fill) } }
+    (p .is, (record { store = p .store; sheet = length-replicate {A = ℕ} 64 (c6 .read-line .result .fill) }, p .order))
 
 slice-aggregate-first-byte : tie.Need-slice-aggregate-first-byte
 slice-aggregate-first-byte c = search needs
@@ -60,7 +61,7 @@ first-byte-requires : tie.Need-first-byte-requires
 first-byte-requires c κs =
     let c6 = c .before .before .before .before .before .before in
     let c13 = c6 .before .before .before .before .before .before .before in
-    omega (arith, c6 .request .kept .1 .1 .0, length-replicate {A = ℕ} 64 (c13 .read-line .result .fill))
+    omega (arith, c6 .serve-one .kept .1 .1 .0, length-replicate {A = ℕ} 64 (c13 .read-line .result .fill))
 
 append-answer-requires : tie.Need-append-answer-requires
 append-answer-requires c κs =
@@ -70,8 +71,8 @@ append-answer-requires c κs =
     let c20 = c15 .before .before .before .before .before in
     let a = c20 .args in
     let p = c20 .pre in
-    let text = served-text (a .tables .now) (a .store .now) (a .line .now) (a .number) (p .0) _ (c15 .read-line .ensures) (not-false _ (c13 .if1 .left))
-    (c8 .request .result) _ _ _ (c8 .request .ensures) _ (c .before .first-byte .ensures) in
+    let text = served-text (a .tables .now) (a .store .now) (a .line .now) (a .number) _ (c15 .read-line .ensures) (not-false _ (c13 .if1 .left))
+    (c8 .serve-one .result) _ _ _ (c8 .serve-one .ensures) _ (c .before .first-byte .ensures) in
     subst (Countable (a .at)) text (p .1)
 
 same-length-2 : tie.Need-same-length-2
@@ -96,9 +97,9 @@ returns-2 c =
     let bytes = a .store .now in
     let line = a .line .now in
     let formed = not-false _ (c16 .if1 .left) in
-    let text = served-text image bytes line (a .number) (p .0) _ (c18 .read-line .ensures) formed (c11 .request .result) _ _ _ (c11 .request .ensures) _ (c4 .first-byte .ensures) in (
+    let text = served-text image bytes line (a .number) _ (c18 .read-line .ensures) formed (c11 .serve-one .result) _ _ _ (c11 .serve-one .ensures) _ (c4 .first-byte .ensures) in (
       append-as _ _ _ _ _ _ (sym text) (c .before .before .append-answer .ensures),
-      served-holds image bytes line (a .number) (p .0) _ (c18 .read-line .ensures) formed (c11 .request .result) _ _ _ (c11 .request .ensures),
+      served-holds image bytes line (a .number) _ (c18 .read-line .ensures) formed (c11 .serve-one .result) _ _ _ (c11 .serve-one .ensures),
     )
 
 pub serve-line-spec : {M : Type 1} → statement M
@@ -109,8 +110,8 @@ serve-line-spec =
     append-other-requires
     same-length
     returns
-    slice-aggregate-request
-    request-requires
+    slice-aggregate-serve-one
+    serve-one-requires
     slice-aggregate-first-byte
     first-byte-requires
     append-answer-requires

@@ -1,0 +1,105 @@
+-- Each return is one case of the tests before it; the last one has written the whole trace.
+use mathlib.Core.Path.{sym, _∙_}
+use native.Mathlib.Omega.{arith}
+use borrow.Author.Needs.{needs}
+use borrow.Author.Tests.{not-true, not-false}
+use Rattle.batch.proofs.Refusals.{tables-bad, tables-ok, is-image, is-in-order}
+use Rattle.lending.specs.Trace.{traceBuffers}
+use Rattle.text_trace.proofs.LentTrace.{other-tables, other-store, bad-tables, too-short, whole}
+use Rattle.text_trace.proofs.trace_lent.Statement.{statement}
+use Rattle.text_trace.proofs.trace_lent.Tie as tie
+
+returns : tie.Need-returns
+returns c =
+    let a = c .before .before .before .before .before .args in
+    other-tables (traceBuffers (a .tables .now) (a .store .now) (a .input .now) (a .output .now)) (c .if1 .taken)
+
+returns-2 : tie.Need-returns-2
+returns-2 c =
+    let a = c .before .before .before .before .before .before .args in
+    other-store (traceBuffers (a .tables .now) (a .store .now) (a .input .now) (a .output .now)) (c .if2 .taken)
+
+image-in-order-requires : tie.Need-image-in-order-requires
+image-in-order-requires c κs = search needs
+
+same-length : tie.Need-same-length
+same-length c = search needs
+
+returns-3 : tie.Need-returns-3
+returns-3 c =
+    let a = c .before .before .before .before .before .before .before .before .before .args in
+    bad-tables (traceBuffers (a .tables .now) (a .store .now) (a .input .now) (a .output .now)) (c .before .before .before .before .if1 .left) (c .before .before .before .if2 .left)
+    (tables-bad (a .tables .now) (c .before .image-in-order .ensures) (c .if3 .taken))
+
+no-far-child-requires : tie.Need-no-far-child-requires
+no-far-child-requires c κs = search needs
+
+fits-requires : tie.Need-fits-requires
+fits-requires c κs =
+    let tables = c .before .before .before .before .before .before .before .before .before .before .before .before .before .args .tables .now in
+    let told = c .before .before .before .before .before .image-in-order .ensures in
+    record {
+      is = is-image tables told (c .before .before .before .before .if3 .left);
+      order = λ e. is-in-order tables told (c .before .before .before .before .if3 .left);
+      noFar = λ e. sym (c .before .before .no-far-child .ensures) ∙ e;
+      store = c .before .before .before .before .before .before .before .if2 .left;
+    }
+
+same-length-2 : tie.Need-same-length-2
+same-length-2 c = search needs
+
+same-length-3 : tie.Need-same-length-3
+same-length-3 c = search needs
+
+returns-4 : tie.Need-returns-4
+returns-4 c =
+    let a = c .before .before .before .before .before .before .before .before .before .before .before .before .before .before .before .args in
+    too-short (traceBuffers (a .tables .now) (a .store .now) (a .input .now) (a .output .now)) (c .before .before .before .before .before .before .before .before .before .before .if1 .left) (c .before .before .before .before .before .before .before .before .before .if2 .left)
+    (tables-ok (a .tables .now) (c .before .before .before .before .before .before .before .image-in-order .ensures) (c .before .before .before .before .before .before .if3 .left)) (sym (c .before .fits2 .ensures) ∙ not-true _ (c .if4 .taken))
+
+put-trace-requires : tie.Need-put-trace-requires
+put-trace-requires c κs =
+    let tables = c .before .before .before .before .before .before .before .before .before .before .before .before .before .before .before .before .before .before .args .tables .now in
+    let told = c .before .before .before .before .before .before .before .before .before .before .image-in-order .ensures in
+    record {
+      is = is-image tables told (c .before .before .before .before .before .before .before .before .before .if3 .left);
+      order = λ e. is-in-order tables told (c .before .before .before .before .before .before .before .before .before .if3 .left);
+      noFar = λ e. sym (c .before .before .before .before .before .before .before .no-far-child .ensures) ∙ e;
+      store = c .before .before .before .before .before .before .before .before .before .before .before .before .if2 .left;
+    }
+
+same-length-4 : tie.Need-same-length-4
+same-length-4 c = search needs
+
+same-length-5 : tie.Need-same-length-5
+same-length-5 c = search needs
+
+same-length-6 : tie.Need-same-length-6
+same-length-6 c = search needs
+
+returns-5 : tie.Need-returns-5
+returns-5 c =
+    let a = c .before .before .before .before .before .before .before .before .before .before .before .before .before .before .before .before .before .before .before .before .before .before .before .before .before .args in
+    let put = c .before .before .before .before .before .before .put-trace .ensures in
+    whole (traceBuffers (a .tables .now) (a .store .now) (a .input .now) (a .output .now)) (c .before .before .before .before .before .before .before .before .before .before .before .before .before .before .before .before .before .before .before .before .if1 .left) (c .before .before .before .before .before .before .before .before .before .before .before .before .before .before .before .before .before .before .before .if2 .left)
+    (tables-ok (a .tables .now) (c .before .before .before .before .before .before .before .before .before .before .before .before .before .before .before .before .before .image-in-order .ensures) (c .before .before .before .before .before .before .before .before .before .before .before .before .before .before .before .before .if3 .left)) (sym (c .before .before .before .before .before .before .before .before .before .before .before .fits2 .ensures) ∙ not-false _ (c .before .before .before .before .before .before .before .before .before .before .if4 .left)) (put .0) (put .1)
+
+pub trace-lent-spec : {M : Type 1} → statement M
+trace-lent-spec =
+    tie.close
+    (tie.spec
+    returns
+    returns-2
+    image-in-order-requires
+    same-length
+    returns-3
+    no-far-child-requires
+    fits-requires
+    same-length-2
+    same-length-3
+    returns-4
+    put-trace-requires
+    same-length-4
+    same-length-5
+    same-length-6
+    returns-5)
