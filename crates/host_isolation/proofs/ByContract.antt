@@ -1,0 +1,46 @@
+-- The calls that the claim follows are those of the routines' contracts: what `EmptiesImage`, `Steps` and `Leaves` say of the buffers that come
+-- back is what `result`, `left` and `made` take.
+use Prim.Native.Nat.{ℕ}
+use mathlib.Core.Path.{_≡_, sym, ap, _∙_}
+use mathlib.Core.List.{List}
+use lib.ListN.{getD}
+use Rattle.machine.specs.Numbers.{requestOf, answerNumbers}
+use Rattle.lending.specs.Batch.{Left, Leaves}
+use Rattle.lending.specs.Host.{EmptiesImage, stepRefusal, stepOutcome, leftBy, stepImage, Steps}
+use Rattle.host_isolation.specs.Calls.{Dock, Call, emptying, stepping, serving, lent, result, left, inStep}
+
+-- what came back, and the dock that was left
+pub record Follows (d : Dock) (c : Call) (result′ : ℕ) (image store : List ℕ) : Type 0 where
+  pub result : result′ ≡ result d c
+  pub dock : record { image = image; store = store } ≡ left d c
+
+module _ (d : Dock) (result′ : ℕ) (tables store : List ℕ) where
+  pub dock-empty : EmptiesImage (d .image) (d .store) result′ tables store → Follows d emptying result′ tables store
+  unfolding result left
+  dock-empty h = record { result = h .result; dock = λ i. record { image = h .tables i; store = h .store i } }
+
+  module _ (sheet request answer sheet′ answer′ : List ℕ) where
+    pub dock-step : Steps (lent d sheet request answer) result′ tables store sheet′ answer′
+        → Follows d (stepping sheet request answer) result′ tables store
+    unfolding result left
+    dock-step h = record { result = h .result; dock = λ i. record { image = h .tables i; store = h .store i } }
+
+    -- the exchange is in the host's own buffers
+    pub step-exchange : Steps (lent d sheet request answer) result′ tables store sheet′ answer′
+        → record { request = requestOf request; sheet = sheet; answer = answer′; left = sheet′ } ≡ inStep sheet request (stepImage (lent d sheet request answer))
+    unfolding inStep
+    step-exchange h i = record { request = requestOf request; sheet = sheet; answer = h .answer i; left = h .sheet i }
+
+    -- and what dock_step hands back is its answer's first number
+    is-served : stepRefusal (lent d sheet request answer) ≡ 0 → stepImage (lent d sheet request answer) ≡ leftBy (stepOutcome (lent d sheet request answer))
+    unfolding stepImage
+    is-served e = rw e
+
+    pub step-returns : stepRefusal (lent d sheet request answer) ≡ 0
+        → result d (stepping sheet request answer) ≡ getD (inStep sheet request (stepImage (lent d sheet request answer)) .answer) 0 0
+    unfolding result inStep leftBy answerNumbers
+    step-returns e = let is = is-served e in (λ i. is i .result) ∙ sym (ap (λ (l : Left). getD (l .answers) 0 0) is)
+
+    pub dock-serve : Leaves (lent d sheet request answer) result′ tables store sheet′ answer′ → Follows d (serving sheet request answer) result′ tables store
+    unfolding result left
+    dock-serve h = record { result = h .result; dock = λ i. record { image = h .tables i; store = h .store i } }
