@@ -31,8 +31,8 @@ use Rattle.text.proofs.Appending.{append-as, append-both}
 use Rattle.trace_texts.specs.Line.{otherLine}
 use Rattle.trace_texts.specs.Trace.{longestInput, traceRoom, inputNames, outputNames, answers, inputOk, traceFrom, trace}
 use Rattle.text_trace.specs.Contract.{dockOf, Servable}
-use Rattle.text_trace.proofs.AnswerLine.{other-short}
-use Rattle.text_trace.proofs.AnswersLaws.{answers-fit, trace-short}
+use Rattle.trace_texts.proofs.AnswerLine.{other-short}
+use Rattle.trace_texts.proofs.AnswersLaws.{answers-fit, trace-short}
 
 -- ---- the emptied dock, as an image and a store of zeros
 zeros-tables : decode (replicate imageSize 0) ≡ emptyTables
@@ -117,7 +117,7 @@ module _ (input : List ℕ) (first : FirstLine) (told : first ≡ firstLineOf in
   pub served-fits : (at : ℕ) → at ≡ 34 → inputOk input ≡ true
       → Countable at (answers 1 (dockOf (replicate imageSize 0) (replicate 16384 0)) (lines (drop (first .end + 1) input)))
   served-fits at e ok =
-      subst (Countable at) served-answers (omega (arith, e, answers-fit input ok))
+      subst (Countable at) served-answers (omega (arith, e, answers-fit emptyDock input ok))
 
 -- ---- an output of `traceRoom` bytes takes every trace
 pub whole-in-buffer : (input before after : List ℕ) (r : ℕ) → length before ≡ traceRoom → Writes (trace input) before after r

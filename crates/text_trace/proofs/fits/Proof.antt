@@ -8,7 +8,7 @@ use borrow.Author.Needs.{needs}
 use borrow.Author.Tests.{le-leb}
 use Rattle.text.proofs.Appending.{measured}
 use Rattle.trace_texts.specs.Trace.{trace}
-use Rattle.text_trace.proofs.AnswersLaws.{trace-short}
+use Rattle.trace_texts.proofs.AnswersLaws.{trace-short}
 use Rattle.text_trace.proofs.fits.Statement.{statement}
 use Rattle.text_trace.proofs.fits.Tie as tie
 

@@ -1,4 +1,4 @@
--- The answers line by line, and how long they can be: at most 15 bytes for each byte of the input.
+-- The answers line by line, and how long they can be, from any state: at most 15 bytes for each byte of the input.
 use Prim.Native.Nat.{ℕ, _+_, _*_, _≤_}
 use native.Mathlib.Omega.{arith}
 use mathlib.Core.Path.{_≡_, refl}
@@ -14,9 +14,9 @@ use Rattle.machine.specs.Empty.{emptyDock}
 use Rattle.text.specs.Bytes.{bytes, space, lineEnd}
 use Rattle.text.specs.Names.{behindNames}
 use Rattle.text.specs.Reading.{inFront, cut, lines, fields, isValue, hasValues}
 use Rattle.trace_texts.specs.Line.{inputColumns, inForm, sentBy, answerLine, firstByte, otherLine}
 use Rattle.trace_texts.specs.Trace.{longestInput, traceRoom, outputNames, servedBy, answerTo, leftByLine, answers, afterLines, inputOk, traceFrom, trace}
-use Rattle.text_trace.proofs.AnswerLine.{answer-short, other-short}
+use Rattle.trace_texts.proofs.AnswerLine.{answer-short, other-short}
 
 -- ---- line by line
 module _ (number : ℕ) (s : State) (line : List ℕ) where
@@ -125,18 +125,21 @@ unfolding outputNames bytes
 names-long = refl
 
 -- behind the line of names
-pub answers-fit : (input : List ℕ) → inputOk input ≡ true → 34 + length (answers 1 emptyDock (behindNames (lines input))) ≤ traceRoom
+pub answers-fit : (s : State) (input : List ℕ) → inputOk input ≡ true → 34 + length (answers 1 s (behindNames (lines input))) ≤ traceRoom
 unfolding inputOk
-answers-fit input e =
+answers-fit s input e =
     let short = leb-true (length input) longestInput (and-l (leb (length input) longestInput) _ e) in
     let within = behind-span (lines input) longestInput (omega (arith, lines-span input)) in
-    omega (arith, answers-short 1 emptyDock (behindNames (lines input)))
+    omega (arith, answers-short 1 s (behindNames (lines input)))
 
-pub trace-short : (input : List ℕ) → length (trace input) ≤ traceRoom
+pub trace-short-from : (s : State) (input : List ℕ) → length (traceFrom s input) ≤ traceRoom
 unfolding traceFrom
-trace-short input = go (case (inputOk input))
+trace-short-from s input = go (case (inputOk input))
   where
     go : Case (inputOk input)
-        → length (outputNames ++ lineEnd ∷ cond (inputOk input) (answers 1 emptyDock (behindNames (lines input))) (otherLine 0)) ≤ traceRoom
-    go (pass e) = rw e (simp length-append (omega (arith, names-long, answers-fit input e)))
+        → length (outputNames ++ lineEnd ∷ cond (inputOk input) (answers 1 s (behindNames (lines input))) (otherLine 0)) ≤ traceRoom
+    go (pass e) = rw e (simp length-append (omega (arith, names-long, answers-fit s input e)))
     go (fail e) = rw e (simp length-append (omega (arith, names-long, other-short 0)))
+
+pub trace-short : (input : List ℕ) → length (trace input) ≤ traceRoom
+trace-short = trace-short-from emptyDock
