@@ -30,14 +30,17 @@ use Rattle.isolation.proofs.Isolation.{isolation}
 use Rattle.machine.specs.Numbers.{requestWidth, answerWidth, answerNumbers}
 use Rattle.image.specs.Layout.{imageSize}
 use Rattle.image.specs.Image.{decode}
+use Rattle.trace_texts.specs.Trace.{traceRoom}
+use Rattle.trace_texts.proofs.AnswersLaws.{trace-short-from}
 use Rattle.lending.specs.Batch.{lengthsFit, batchRefusal, allServed, untouched, batch}
-use Rattle.lending.specs.Host as host
 use Rattle.lending.specs.Host.{stepRefusal, stepImage, checkImage}
-use Rattle.host_isolation.specs.Calls.{Dock, Whole, Call, emptying, stepping, serving, checking, testing, lent, result, left, leftBy, Exchange, made, empties, exchanges, noneCrosses, ofGroup, Given, Agree, IsolatedForHosts, Usable, UsableForHosts}
+use Rattle.lending.specs.Trace.{dockOf, traceOf, traceRefusal, traceLent}
+use Rattle.host_isolation.specs.Calls.{Dock, Whole, Call, emptying, stepping, serving, tracing, checking, testing, lent, lentTrace, result, left, leftByAll, Exchange, made, empties, exchanges, noneCrosses, ofGroup, Isolated, IsolatedForHosts, Usable, UsableForHosts}
 use Rattle.host_isolation.proofs.Traced.{traced, traced-append, asSeen, edge-seen, group-seen, given-seen, agree-seen}
 use Rattle.host_isolation.proofs.Stands.{Stands, is-image, in-order, tables-ok, stands-whole, order-0, is-emptied, emptied-stands}
 use Rattle.host_isolation.proofs.OneCall.{startFor, Makes, nothing-made, step-low, stepping-makes}
 use Rattle.host_isolation.proofs.OneBatch.{serving-makes}
+use Rattle.host_isolation.proofs.OneTrace.{tracing-makes}
 
 -- ---- any call
 call-makes : (d : Dock) (s : State) → Stands d s → (c : Call) → Makes d c (startFor (empties c) s)
@@ -45,6 +48,7 @@ unfolding made left traced after
 call-makes d s h emptying = record { sent = []; same = refl; stands = emptied-stands d (stands-whole d s h) }
 call-makes d s h (stepping sheet request answer) = stepping-makes d sheet request answer s h
 call-makes d s h (serving sheets requests answers) = serving-makes d sheets requests answers s h
+call-makes d s h (tracing input output) = tracing-makes d input output s h
 call-makes d s h (checking pad program number sheet right) = nothing-made d (checking pad program number sheet right) s refl refl h
 call-makes d s h testing = nothing-made d testing s refl refl h
 
@@ -93,7 +97,7 @@ since-emptied d w cs = go (case (some empties cs)) (sequence-of cs (left d empty
 
 -- ---- demand 3 for hosts
 sequences-agree : (g : Group) (xs ys : List Exchange) → Sequence xs emptyDock → Sequence ys emptyDock
-    → noneCrosses g xs ≡ true → noneCrosses g ys ≡ true → ForEvery Given (ofGroup g xs) (ofGroup g ys) → ForEvery Agree (ofGroup g xs) (ofGroup g ys)
+    → Isolated g xs ys
 sequences-agree g xs ys p q a b given =
     let ours : ofGroup g xs ≡ map asSeen (groupExchanges g emptyDock (p .sent)) = ap (ofGroup g) (p .same) ∙ group-seen g emptyDock (p .sent) in
     let theirs : ofGroup g ys ≡ map asSeen (groupExchanges g emptyDock (q .sent)) = ap (ofGroup g) (q .same) ∙ group-seen g emptyDock (q .sent) in
@@ -113,6 +117,12 @@ not-14 : (x : Bool) → (13 when x else 14 when false else 0) ≡ 14 → ⊥
 unfolding _when_else_
 not-14 true z = omega arith
 not-14 false z = omega arith
+
+not-14-17 : (x y : Bool) → (13 when x else 14 when false else 17 when y else 0) ≡ 14 → ⊥
+unfolding _when_else_
+not-14-17 true y z = omega arith
+not-14-17 false true z = omega arith
+not-14-17 false false z = omega arith
 
 dock-refusal-low : (t : Tables) (n : Name) (sheet right : ℕ) → dockRefusal t n sheet right ≤ 12
 unfolding dockRefusal
@@ -199,6 +209,28 @@ module _ (d : Dock) (s : State) (h : Stands d s) where
   served-not-14 sheets requests answers (pass e) z = let z′ : _≡_ {A = ℕ} 0 14 = rw e at z in omega arith
   served-not-14 sheets requests answers (fail e) z = serve-not-14 sheets requests answers (rw e at z)
 
+  trace-0 : (input output : List ℕ) → traceRoom ≤ length output → traceRefusal (lentTrace d input output) ≡ 0
+  unfolding traceRefusal _when_else_
+  trace-0 input output room =
+      let short = trace-short-from (dockOf (d .image) (d .store)) input in
+      rw (
+        eq-eqb (length (d .image)) imageSize long,
+        eq-eqb (length (d .store)) 16384 (stands-whole d s h .store),
+        tables-ok d s h,
+        le-leb (length (traceOf (lentTrace d input output))) (length output) (omega (arith, short, room)),
+      )
+
+  trace-not-14 : (input output : List ℕ) → traceRefusal (lentTrace d input output) ≡ 14 → ⊥
+  unfolding traceRefusal
+  trace-not-14 input output z =
+      not-14-17 (not (eqb (length (d .image)) imageSize && eqb (length (d .store)) 16384)) (not (leb (length (traceOf (lentTrace d input output))) (length output)))
+      (rw (tables-ok d s h) at z)
+
+  traced-not-14 : (input output : List ℕ) → Case (eqb (traceRefusal (lentTrace d input output)) 0) → traceLent (lentTrace d input output) .result ≡ 14 → ⊥
+  unfolding traceLent
+  traced-not-14 input output (pass e) z = let z′ : _≡_ {A = ℕ} 0 14 = rw e at z in omega arith
+  traced-not-14 input output (fail e) z = trace-not-14 input output (rw e at z)
+
   check-low : (pad program number sheet right : ℕ) → checkImage (d .image) pad program number sheet right ≤ 12
   unfolding checkImage dockCheck _when_else_
   check-low pad program number sheet right =
@@ -209,6 +241,7 @@ module _ (d : Dock) (s : State) (h : Stands d s) where
   never emptying z = let zero14 : _≡_ {A = ℕ} 0 14 = sym empty-0 ∙ z in omega arith
   never (stepping sheet request answer) z = stepped-not-14 sheet request answer (case (eqb (stepRefusal (lent d sheet request answer)) 0)) z
   never (serving sheets requests answers) z = served-not-14 sheets requests answers (case (eqb (batchRefusal (lent d sheets requests answers)) 0)) z
+  never (tracing input output) z = traced-not-14 input output (case (eqb (traceRefusal (lentTrace d input output)) 0)) z
   never (checking pad program number sheet right) z = let low = check-low pad program number sheet right in omega (arith, low, z)
   never testing z = let zero14 : _≡_ {A = ℕ} 0 14 = sym (order-0 d s h) ∙ z in omega arith
 
@@ -218,15 +251,15 @@ module _ (d : Dock) (s : State) (h : Stands d s) where
 
   usable : Usable d
   unfolding lowAnswer
-  usable = record { whole = stands-whole d s h; never14 = never; answered = low-answers; emptied = empty-0; stepped = step-0; served = serve-0 }
+  usable = record { whole = stands-whole d s h; never14 = never; answered = low-answers; emptied = empty-0; stepped = step-0; served = serve-0; traced = trace-0 }
 
-usable-after : (cs : List Call) (d : Dock) (s : State) → Stands d s → Usable (leftBy d cs)
-unfolding leftBy
+usable-after : (cs : List Call) (d : Dock) (s : State) → Stands d s → Usable (leftByAll d cs)
+unfolding leftByAll
 usable-after [] d s h = usable d s h
 usable-after (c ∷ cs) d s h =
     let m = call-makes d s h c in
     usable-after cs (left d c) (after (startFor (empties c) s) (m .sent)) (m .stands)
 
 pub usable-for-hosts : UsableForHosts
-unfolding leftBy
+unfolding leftByAll
 usable-for-hosts d w cs = usable-after cs (left d emptying) emptyDock (emptied-stands d w)
