@@ -1,4 +1,4 @@
--- The calls that the claim follows are those of the routines' contracts: what `EmptiesImage`, `Steps` and `Leaves` say of the buffers that come
+-- The calls that the claim follows are those of the routines' contracts: what `EmptiesImage`, `Steps`, `Leaves` and `TracesLent` say of the buffers that come
 -- back is what `result`, `left` and `made` take.
 use Prim.Native.Nat.{ℕ}
 use mathlib.Core.Path.{_≡_, sym, ap, _∙_}
@@ -7,7 +7,8 @@ use lib.ListN.{getD}
 use Rattle.machine.specs.Numbers.{requestOf, answerNumbers}
 use Rattle.lending.specs.Batch.{Left, Leaves}
 use Rattle.lending.specs.Host.{EmptiesImage, stepRefusal, stepOutcome, leftBy, stepImage, Steps}
-use Rattle.host_isolation.specs.Calls.{Dock, Call, emptying, stepping, serving, lent, result, left, inStep}
+use Rattle.lending.specs.Trace.{TracesLent}
+use Rattle.host_isolation.specs.Calls.{Dock, Call, emptying, stepping, serving, tracing, lent, lentTrace, result, left, inStep}
 
 -- what came back, and the dock that was left
 pub record Follows (d : Dock) (c : Call) (result′ : ℕ) (image store : List ℕ) : Type 0 where
@@ -18,6 +19,11 @@ module _ (d : Dock) (result′ : ℕ) (tables store : List ℕ) where
   pub dock-empty : EmptiesImage (d .image) (d .store) result′ tables store → Follows d emptying result′ tables store
   unfolding result left
   dock-empty h = record { result = h .result; dock = λ i. record { image = h .tables i; store = h .store i } }
+
+  pub dock-trace : (input output output′ : List ℕ) (size : ℕ) → TracesLent (lentTrace d input output) result′ tables store output′ size
+      → Follows d (tracing input output) result′ tables store
+  unfolding result left
+  dock-trace input output output′ size h = record { result = h .result; dock = λ i. record { image = h .tables i; store = h .store i } }
 
   module _ (sheet request answer sheet′ answer′ : List ℕ) where
     pub dock-step : Steps (lent d sheet request answer) result′ tables store sheet′ answer′

@@ -24,14 +24,14 @@ use Rattle.tables.specs.Names.{emptyTables}
 use Rattle.machine.specs.Numbers.{requestOf, answerWidth, answerNumbers}
 use Rattle.lending.specs.Host as host
 use Rattle.lending.specs.Host.{stepRefusal}
-use Rattle.host_isolation.specs.Calls.{Dock, Whole, Call, emptying, stepping, lent, left, Exchange, made, empties, exchanges, noneCrosses, ofGroup, Given, Agree, IsolatedForHosts}
+use Rattle.host_isolation.specs.Calls.{Dock, Whole, Call, emptying, stepping, lent, result, left, Exchange, made, empties, exchanges, noneCrosses, ofGroup, Given, Agree, IsolatedForHosts}
 use Rattle.host_isolation.proofs.Traced.{seenBy, traced, asSeen, edge-seen, group-seen}
 use Rattle.host_isolation.proofs.Stands.{Stands, emptied-stands}
-use Rattle.host_isolation.proofs.OneCall.{theSent, step-same, step-left}
+use Rattle.host_isolation.proofs.OneCall.{theSent, step-result, step-same, step-left}
 use Rattle.host_isolation.proofs.ForHosts.{step-0}
 
 -- ---- a request as a call
-pub numbersOf : Request → List ℕ
+unfoldable pub numbersOf : Request → List ℕ
 numbersOf r =
     r .pad ∷ r .program ∷ r .op ∷ r .ticket ∷ r .topad ∷ r .toprogram ∷ r .first ∷ r .count ∷ r .rights ∷ []
 
@@ -59,6 +59,10 @@ module _ (d : Dock) (s : State) (h : Stands d s) (i : Sent) where
   pub one-made : made d (callFor i) ≡ seenBy i (step (enter s i) (i .request)) ∷ []
   unfolding traced theSent enter numbersOf
   one-made = step-same d (i .sheet) (numbersOf (i .request)) (replicate answerWidth 0) s h is-served
+
+  pub one-result : result d (callFor i) ≡ step (enter s i) (i .request) .answer .result
+  unfolding result theSent enter numbersOf
+  one-result = step-result d (i .sheet) (numbersOf (i .request)) (replicate answerWidth 0) s h is-served
 
   pub one-left : Stands (left d (callFor i)) (step (enter s i) (i .request) .state)
   unfolding theSent enter numbersOf host.leftBy
@@ -124,6 +128,6 @@ hosts-are-enough hosts g is js a b given =
     ap (ofGroup g) theirs ∙ group-seen g emptyDock js in
     agree-called (groupExchanges g emptyDock is) (groupExchanges g emptyDock js)
     (rw (mine, yours)
-    at (hosts g anyDock anyDock any-whole any-whole (callsFor is) (callsFor js)
+    at (hosts g anyDock anyDock (callsFor is) (callsFor js)
     (ap (noneCrosses g) ours ∙ edge-seen g emptyDock is ∙ a) (ap (noneCrosses g) theirs ∙ edge-seen g emptyDock js ∙ b)
     (rw (mine, yours) (given-called (groupExchanges g emptyDock is) (groupExchanges g emptyDock js) given))))

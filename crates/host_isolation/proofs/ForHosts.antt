@@ -22,7 +22,7 @@ use Rattle.machine.specs.Dock.{dockRefusal, dockCheck}
 use Rattle.machine.specs.Empty.{emptyDock}
 use Rattle.machine.specs.Step.{step}
 use Rattle.machine.specs.Sequence.{Sent, enter, after, Group, groupExchanges}
-use Rattle.machine.specs.Isolation.{ForEvery}
+use Rattle.machine.specs.Isolation.{no-left, no-right}
 use Rattle.machine.proofs.RefusalLaws.{when-at-most}
 use Rattle.preservation.specs.InOrder.{DockOk}
 use Rattle.preservation.proofs.StepKeepsOrder.{step-keeps, result-at-most-12, empty-dock-ok}
@@ -41,6 +41,7 @@ use Rattle.host_isolation.proofs.Stands.{Stands, is-image, in-order, ta
 use Rattle.host_isolation.proofs.OneCall.{startFor, Makes, nothing-made, step-low, stepping-makes}
 use Rattle.host_isolation.proofs.OneBatch.{serving-makes}
 use Rattle.host_isolation.proofs.OneTrace.{tracing-makes}
+use Rattle.host_isolation.proofs.NotWhole.{isWhole, whole-dock, none-at-all}
 
 -- ---- any call
 call-makes : (d : Dock) (s : State) → Stands d s → (c : Call) → Makes d c (startFor (empties c) s)
@@ -109,8 +110,15 @@ sequences-agree g xs ys p q a b given =
     (given-seen (groupExchanges g emptyDock (p .sent)) (groupExchanges g emptyDock (q .sent)) (rw (ours, theirs) at given))))
 
 pub isolated-for-hosts : IsolatedForHosts
-isolated-for-hosts g d e w v cs ds a b given =
-    sequences-agree g (exchanges d (emptying ∷ cs)) (exchanges e (emptying ∷ ds)) (since-emptied d w cs) (since-emptied e v ds) a b given
+unfolding ofGroup
+isolated-for-hosts g d e cs ds = go (case (isWhole d)) (case (isWhole e))
+  where
+    go : Case (isWhole d) → Case (isWhole e) → Isolated g (exchanges d (emptying ∷ cs)) (exchanges e (emptying ∷ ds))
+    go (fail o) _ a b given = rw (none-at-all (emptying ∷ cs) d o) no-left
+    go (pass w) (fail o) a b given = rw (none-at-all (emptying ∷ ds) e o) no-right
+    go (pass w) (pass v) a b given =
+        sequences-agree g (exchanges d (emptying ∷ cs)) (exchanges e (emptying ∷ ds)) (since-emptied d (whole-dock d w) cs)
+        (since-emptied e (whole-dock e v) ds) a b given
 
 -- ---- the dock stays usable
 not-14 : (x : Bool) → (13 when x else 14 when false else 0) ≡ 14 → ⊥
@@ -169,7 +177,7 @@ module _ (d : Dock) (s : State) (h : Stands d s) where
         tables-ok d s h,
       )
 
-  serve-0 : (n : ℕ) (sheets requests answers : List ℕ) → length sheets ≡ 64 * n → length requests ≡ requestWidth * n → length answers ≡ answerWidth * n
+  pub serve-0 : (n : ℕ) (sheets requests answers : List ℕ) → length sheets ≡ 64 * n → length requests ≡ requestWidth * n → length answers ≡ answerWidth * n
       → batchRefusal (lent d sheets requests answers) ≡ 0
   unfolding batchRefusal lengthsFit _when_else_
   serve-0 n sheets requests answers a b c =

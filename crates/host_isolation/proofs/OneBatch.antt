@@ -47,10 +47,10 @@ part-at w n part wide i h =
     ∙ ap (take w) (it .same) ∙ take-at (part i) (it .rest) w (wide i h)
 
 -- 64 bytes: what there is, then zeros
-filled : List ℕ → List ℕ
+unfoldable pub filled : List ℕ → List ℕ
 filled l = take 64 (l ++ replicate 64 0)
 
-filled-long : (l : List ℕ) → length (filled l) ≡ 64
+pub filled-long : (l : List ℕ) → length (filled l) ≡ 64
 unfolding filled
 filled-long l =
     length-take-le 64 (l ++ replicate 64 0) (omega (arith, length-append l (replicate 64 0), length-replicate {A = ℕ} 64 0))
@@ -88,10 +88,10 @@ module _ (d : Dock) (sheets requests answers : List ℕ) where
   abbrev st : Start
   st = startOf b
 
-  sentAt : ℕ → Sent
+  unfoldable pub sentAt : ℕ → Sent
   sentAt i = record { request = requestAt i requests; sheet = filled (sheetAt i sheets); whole = filled-long (sheetAt i sheets) }
 
-  abbrev sentTo : ℕ → List Sent
+  abbrev pub sentTo : ℕ → List Sent
   sentTo m = joined m (λ j. sentAt j ∷ [])
 
   module _ (s : State) (h : Stands d s) (e : eqb (batchRefusal b) 0 ≡ true) where
@@ -175,7 +175,7 @@ module _ (d : Dock) (sheets requests answers : List ℕ) where
         ap (λ (x : Outcome). x .state) (same-outcome m low) ∙ sym (after-append (met st 0) (sentTo m) (sentAt m ∷ [])) in
         (ap (λ (x : State). x .tables) o, ap (λ (x : State). x .store) o)
 
-    batch-same : made d (serving sheets requests answers) ≡ traced s (sentTo n)
+    pub batch-same : made d (serving sheets requests answers) ≡ traced s (sentTo n)
     unfolding made
     batch-same = rw e (exchanges-to n (omega arith) ∙ traced-same (met st 0) s first-tables first-store (sentTo n))
 

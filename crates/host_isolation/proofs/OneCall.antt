@@ -75,10 +75,14 @@ module _ (d : Dock) (sheet request answer : List ℕ) where
     unfolding stepImage
     is-left = rw e
 
+    pub step-result : stepImage b .result ≡ step (enter s theSent) (theSent .request) .answer .result
+    unfolding host.leftBy
+    step-result = (λ i. is-left i .result) ∙ ap (λ (o : Outcome). o .answer .result) the-outcome
+
     pub step-low : stepImage b .result ≤ 12
-    unfolding host.leftBy enter
+    unfolding enter
     step-low =
-        rw (is-left, the-outcome)
+        rw step-result
         (result-at-most-12 (enter s theSent) (theSent .request) (record { tables = h .ok .tables; store = h .ok .store }) (theSent .whole))
 
     pub step-same : made d (stepping sheet request answer) ≡ traced s (theSent ∷ [])

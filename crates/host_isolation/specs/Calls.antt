@@ -164,12 +164,11 @@ Isolated g xs ys =
     noneCrosses g xs ≡ true → noneCrosses g ys ≡ true
     → ForEvery Given (ofGroup g xs) (ofGroup g ys) → ForEvery Agree (ofGroup g xs) (ofGroup g ys)
 
--- ---- the claim: two hosts, each with a dock of its own that it empties, whatever that held; then any calls, refused ones and further emptyings
--- included
+-- ---- the claim: two hosts, each with a dock of its own that it empties, whatever that held and however long it is; then any calls, refused
+-- ones and further emptyings included
 abbrev pub IsolatedForHosts : Type 0
 IsolatedForHosts =
-    (g : Group) (d e : Dock) → Whole d → Whole e → (cs ds : List Call)
-    → Isolated g (exchanges d (emptying ∷ cs)) (exchanges e (emptying ∷ ds))
+    (g : Group) (d e : Dock) (cs ds : List Call) → Isolated g (exchanges d (emptying ∷ cs)) (exchanges e (emptying ∷ ds))
 
 -- ---- A call that is refused makes no request, so that the claim is silent about it. That others cannot bring about a refusal is said here: 14
 -- never comes, as a result or in an answer, and 13 and 17 only where a buffer that is handed in beside the dock has another length.
