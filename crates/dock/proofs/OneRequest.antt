@@ -18,7 +18,7 @@ use Rattle.image.specs.Image.{decode}
 use Rattle.op_serve.specs.Contract.{LeavesLent}
 use Rattle.lending.specs.Batch.{Buffers, untouched}
 use Rattle.lending.specs.Host.{stepRefusal, stepOutcome, leftBy, stepImage, Steps, lentRefusal}
-use Rattle.lending.proofs.Refusals.{tables-image, tables-order, not-refused}
+use Rattle.lending.proofs.Refusals.{tables-image, tables-order, not-refused, step-served, step-refused}
 use Rattle.lending.proofs.Served.{is-served}
 use Rattle.lending.proofs.Kept.{image-kept}
 
@@ -28,9 +28,9 @@ module _ (b : Buffers) where
   three = eqb (length (b .tables)) imageSize && eqb (length (b .store)) 16384 && eqb (length (b .sheets)) 64
 
   refused : {n : ℕ} → n ≡ stepRefusal b → (n ≡ 0 → ⊥) → Steps b n (b .tables) (b .store) (b .sheets) (b .answers)
-  unfolding stepImage untouched
+  unfolding untouched
   refused {n} e ne =
-      let is : untouched b n ≡ stepImage b = ap (untouched b) e ∙ rw (ne-eqb (stepRefusal b) 0 (λ z. ne (e ∙ z))) in
+      let is : untouched b n ≡ stepImage b = ap (untouched b) e ∙ sym (step-refused b (λ z. ne (e ∙ z))) in
       record {
         result = λ i. is i .result;
         tables = λ i. is i .tables;
@@ -83,8 +83,7 @@ module _ (b : Buffers) where
           (tables-order (b .tables) (whole .tables))) left
 
       is-step : leftBy (stepOutcome b) ≡ stepImage b
-      unfolding stepImage
-      is-step = rw (sym same-refusal, none)
+      is-step = sym (step-served b (sym same-refusal ∙ none))
 
       pub served : ((i : ℕ) → getD (b .tables) i 0 < 256) → {answer′ : List ℕ} → answer′ ≡ answerNumbers a → Steps b (a .result) tables′ store′ sheet′ answer′
       unfolding leftBy stepOutcome

@@ -22,8 +22,7 @@ use Rattle.image.specs.Image.{encode}
 use Rattle.image.proofs.RoundTrip.{encode-is-image, image-whole}
 use Rattle.tables.specs.Names.{emptyTables}
 use Rattle.machine.specs.Numbers.{requestOf, answerWidth, answerNumbers}
-use Rattle.lending.specs.Host as host
-use Rattle.lending.specs.Host.{stepRefusal}
+use Rattle.lending.specs.Host.{stepRefusal, leftBy}
 use Rattle.host_isolation.specs.Calls.{Dock, Whole, Call, emptying, stepping, lent, result, left, Exchange, made, empties, exchanges, noneCrosses, ofGroup, Given, Agree, IsolatedForHosts}
 use Rattle.host_isolation.proofs.Traced.{seenBy, traced, asSeen, edge-seen, group-seen}
 use Rattle.host_isolation.proofs.Stands.{Stands, emptied-stands}
@@ -65,7 +64,7 @@ module _ (d : Dock) (s : State) (h : Stands d s) (i : Sent) where
   one-result = step-result d (i .sheet) (numbersOf (i .request)) (replicate answerWidth 0) s h is-served
 
   pub one-left : Stands (left d (callFor i)) (step (enter s i) (i .request) .state)
-  unfolding theSent enter numbersOf host.leftBy
+  unfolding theSent enter numbersOf leftBy
   one-left =
       let l = step-left d (i .sheet) (numbersOf (i .request)) (replicate answerWidth 0) s h is-served in
       record {

@@ -1,26 +1,22 @@
 -- The laws of what the calls leave: `decode-encode` for what is left, `encode-decode` for what is refused.
 use Prim.Native.Nat.{ℕ, zero, suc}
-use native.Mathlib.Omega.{arith}
-use mathlib.Core.Path.{_≡_, refl, sym, ap, subst, _∙_}
-use mathlib.Core.Bool.{true, false, not, _&&_}
+use mathlib.Core.Path.{_≡_, refl, sym, ap, _∙_}
 use mathlib.Core.List.{List, [], _∷_}
 use lib.Dec.{eqb}
 use lib.ListN.{length}
-use borrow.Author.Tests.{eqb-true, eq-eqb, ne-eqb, not-false}
+use borrow.Author.Tests.{eqb-true, eqb-false, eq-eqb, ne-eqb}
 use Rattle.lists.proofs.Tests.{Case, pass, fail, case}
 use Rattle.tables.specs.Lookup.{Sized}
 use Rattle.tables.specs.Names.{emptyTables}
 use Rattle.machine.specs.State.{State, stateOf}
-use Rattle.machine.specs.Numbers.{requestWidth, requestOf, answerWidth}
-use Rattle.machine.specs.Refusal.{_when_else_}
+use Rattle.machine.specs.Numbers.{requestOf}
 use Rattle.machine.specs.Sequence.{enter}
 use Rattle.machine.specs.Empty.{emptied}
-use Rattle.machine.proofs.RefusalLaws.{when-past}
 use Rattle.machine.proofs.Untouched.{refused-leaves, dropped-leaves}
 use Rattle.preservation.proofs.EmptyDockInOrder.{empty-sized}
 use Rattle.preservation.proofs.SizedKept.{step-keeps-sized}
 use Rattle.image.specs.Layout.{imageSize}
-use Rattle.image.specs.Image.{encode, decode, isImage}
+use Rattle.image.specs.Image.{decode}
 use Rattle.image.proofs.RoundTrip.{decode-encode}
 use Rattle.image_find.proofs.Laws.{decoded-sized}
 use Rattle.text.specs.Reading.{lines}
@@ -30,10 +26,10 @@ use Rattle.trace_texts.specs.Trace.{leftByLine, afterLines, inputOk, afterTrace
 use Rattle.trace_texts.proofs.AnswersLaws.{left-served, left-other}
 use Rattle.lending.specs.Numbers.{requestAt, countOf}
 use Rattle.lending.specs.Sequence.{Start, met, outcomeAt}
-use Rattle.lending.specs.Batch.{Buffers, Left, tablesOk, batchRefusal, startOf, allServed, untouched, batch}
+use Rattle.lending.specs.Batch.{Buffers, Left, batchRefusal, startOf, allServed, untouched, batch}
 use Rattle.lending.specs.Host.{emptyImage, stepRefusal, stepOutcome, leftBy, stepImage}
-use Rattle.lending.specs.Trace.{TraceBuffers, TraceLeft, dockOf, stateAfter, traceRefusal, traceLent}
-use Rattle.lending.proofs.Refusals.{tables-image}
+use Rattle.lending.specs.Trace.{TraceBuffers, dockOf, stateAfter, traceRefusal, traceLent}
+use Rattle.lending.proofs.Refusals.{tables-image, step-served, step-refused, step-tables}
 use Rattle.lending.proofs.Kept.{image-kept}
 use Rattle.host_isolation.specs.Images.{AllBytes, AsBefore, AfterStep, AfterServe, AfterTrace, ImageLaws}
 
@@ -42,58 +38,41 @@ module _ (b : Buffers) where
   abbrev metState : State
   metState = stateOf (decode (b .tables)) (b .store) (b .sheets)
 
-  step-served : stepRefusal b ≡ 0 → stepImage b ≡ leftBy (stepOutcome b)
-  unfolding stepImage
-  step-served e = rw e
-
-  step-refused : eqb (stepRefusal b) 0 ≡ false → stepImage b ≡ untouched b (stepRefusal b)
-  unfolding stepImage
-  step-refused e = rw e
-
-  step-image : stepRefusal b ≡ 0 → isImage (b .tables) ≡ true
-  unfolding stepRefusal
-  step-image e =
-      let fits = eqb (length (b .tables)) imageSize && eqb (length (b .store)) 16384 && eqb (length (b .sheets)) 64
-      && eqb (length (b .requests)) requestWidth && eqb (length (b .answers)) answerWidth in
-      let order = tablesOk (b .tables) in
-      let p = when-past 13 (not fits) (14 when not order else 0) 0 (λ z. omega arith) e in
-      tables-image (b .tables) (not-false order (when-past 14 (not order) 0 0 (λ z. omega arith) (p .1) .0))
-
   step-read : stepRefusal b ≡ 0 → decode (stepImage b .tables) ≡ stepOutcome b .state .tables
   unfolding leftBy stepOutcome
   step-read e =
-      ap (λ (l : Left). decode (l .tables)) (step-served e)
+      ap (λ (l : Left). decode (l .tables)) (step-served b e)
       ∙ decode-encode (stepOutcome b .state .tables) (step-keeps-sized metState (requestOf (b .requests)) (decoded-sized (b .tables)))
 
   step-kept : AllBytes (b .tables) → (stepImage b .result ≡ 0 → ⊥) → (stepImage b .result ≡ 12 → ⊥) → Case (eqb (stepRefusal b) 0) → AsBefore b (stepImage b)
   unfolding untouched leftBy stepOutcome
   step-kept small x y (fail e) =
-      let is = step-refused e in
+      let is = step-refused b (eqb-false (stepRefusal b) 0 e) in
       record { tables = λ i. is i .tables; store = λ i. is i .store; sheets = λ i. is i .sheets }
   step-kept small x y (pass e) =
       let none = eqb-true (stepRefusal b) 0 e in
-      let is = step-served none in
+      let is = step-served b none in
       let r = requestOf (b .requests) in
       let not0 : stepOutcome b .answer .result ≡ 0 → ⊥ = λ z. x ((λ i. is i .result) ∙ z) in
       let not12 : stepOutcome b .answer .result ≡ 12 → ⊥ = λ z. y ((λ i. is i .result) ∙ z) in
       let same : stepOutcome b .state ≡ metState = refused-leaves metState r not0 not12 in
       record {
-        tables = (λ i. is i .tables) ∙ image-kept (b .tables) (b .store) (b .sheets) r small (step-image none) not0 not12;
+        tables = (λ i. is i .tables) ∙ image-kept (b .tables) (b .store) (b .sheets) r small (tables-image (b .tables) (step-tables b none)) not0 not12;
         store = (λ i. is i .store) ∙ ap (λ (s : State). s .store) same;
         sheets = (λ i. is i .sheets) ∙ ap (λ (s : State). s .sheet) same;
       }
 
   step-12 : stepImage b .result ≡ 12 → Case (eqb (stepRefusal b) 0) → (stepImage b .store ≡ b .store) × (stepImage b .sheets ≡ b .sheets)
   unfolding untouched leftBy stepOutcome
-  step-12 x (fail e) = let is = step-refused e in ((λ i. is i .store), (λ i. is i .sheets))
+  step-12 x (fail e) = let is = step-refused b (eqb-false (stepRefusal b) 0 e) in ((λ i. is i .store), (λ i. is i .sheets))
   step-12 x (pass e) =
-      let is = step-served (eqb-true (stepRefusal b) 0 e) in
+      let is = step-served b (eqb-true (stepRefusal b) 0 e) in
       let same = dropped-leaves metState (requestOf (b .requests)) (sym (λ i. is i .result) ∙ x) in
       ((λ i. is i .store) ∙ same .0, (λ i. is i .sheets) ∙ same .1)
 
   step-answer : (stepRefusal b ≡ 0 → ⊥) → stepImage b .answers ≡ b .answers
   unfolding untouched
-  step-answer x = let is = step-refused (ne-eqb (stepRefusal b) 0 x) in λ i. is i .answers
+  step-answer x = let is = step-refused b x in λ i. is i .answers
 
   after-step : AfterStep b
   after-step = record {

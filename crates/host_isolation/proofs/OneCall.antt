@@ -1,26 +1,21 @@
 -- One call on a dock that stands for a state: the requests that it makes are a sequence from that state, and the dock that it leaves stands
 -- for the state that the sequence leaves. For emptying the state is the emptied one.
 use Prim.Native.Nat.{ℕ, _≤_}
-use native.Mathlib.Omega.{arith}
 use mathlib.Core.Path.{_≡_, ap, _∙_}
-use mathlib.Core.Bool.{Bool, true, false, not, _&&_, cond}
+use mathlib.Core.Bool.{Bool, true, false, cond}
 use mathlib.Core.List.{List, [], _∷_}
 use lib.Dec.{eqb}
-use lib.ListN.{length}
-use borrow.Author.Tests.{eqb-true, not-false}
-use Rattle.lists.proofs.Tests.{Case, pass, fail, case, and-l, and-r}
+use borrow.Author.Tests.{eqb-true, eqb-false}
+use Rattle.lists.proofs.Tests.{Case, pass, fail, case}
 use Rattle.machine.specs.State.{State, Outcome}
-use Rattle.machine.specs.Refusal.{_when_else_}
 use Rattle.machine.specs.Step.{step}
 use Rattle.machine.specs.Empty.{emptyDock}
 use Rattle.machine.specs.Sequence.{Sent, enter, after}
-use Rattle.machine.proofs.RefusalLaws.{when-past}
 use Rattle.preservation.proofs.StepKeepsOrder.{step-keeps, result-at-most-12}
-use Rattle.machine.specs.Numbers.{requestWidth, requestOf, answerWidth}
-use Rattle.image.specs.Layout.{imageSize}
-use Rattle.lending.specs.Batch.{Buffers, tablesOk, untouched}
-use Rattle.lending.specs.Host as host
-use Rattle.lending.specs.Host.{stepRefusal, stepOutcome, stepImage}
+use Rattle.machine.specs.Numbers.{requestOf}
+use Rattle.lending.specs.Batch.{Buffers, untouched}
+use Rattle.lending.specs.Host.{stepRefusal, stepOutcome, leftBy, stepImage}
+use Rattle.lending.proofs.Refusals.{step-served, step-refused, step-sheet}
 use Rattle.host_isolation.specs.Calls.{Dock, Call, emptying, stepping, lent, dockIn, left, Exchange, inStep, made}
 use Rattle.host_isolation.proofs.Traced.{seenBy, traced}
 use Rattle.host_isolation.proofs.Stands.{Stands, decoded}
@@ -47,36 +42,27 @@ module _ (d : Dock) (sheet request answer : List ℕ) where
   abbrev pub b : Buffers
   b = lent d sheet request answer
 
-  pub whole-sheet : stepRefusal b ≡ 0 → length sheet ≡ 64
-  unfolding stepRefusal
-  whole-sheet e =
-      let fits = eqb (length (d .image)) imageSize && eqb (length (d .store)) 16384 && eqb (length sheet) 64 && eqb (length request) requestWidth && eqb (length answer) answerWidth in
-      let past = when-past 13 (not fits) (14 when not (tablesOk (d .image)) else 0) 0 (λ z. omega arith) e in
-      let h : fits ≡ true = not-false fits (past .0) in
-      eqb-true (length sheet) 64 (search (and-l, and-r) depth 8)
-
-  step-refused : eqb (stepRefusal b) 0 ≡ false → made d (stepping sheet request answer) ≡ []
+  none-made : eqb (stepRefusal b) 0 ≡ false → made d (stepping sheet request answer) ≡ []
   unfolding made
-  step-refused e = rw e
+  none-made e = rw e
 
-  step-untouched : eqb (stepRefusal b) 0 ≡ false → left d (stepping sheet request answer) ≡ d
-  unfolding left stepImage untouched
-  step-untouched e = rw e
+  dock-kept : eqb (stepRefusal b) 0 ≡ false → left d (stepping sheet request answer) ≡ d
+  unfolding left untouched
+  dock-kept e = ap dockIn (step-refused b (eqb-false (stepRefusal b) 0 e))
 
   module _ (s : State) (h : Stands d s) (e : eqb (stepRefusal b) 0 ≡ true) where
     unfoldable pub theSent : Sent
-    theSent = record { request = requestOf request; sheet = sheet; whole = whole-sheet (eqb-true (stepRefusal b) 0 e) }
+    theSent = record { request = requestOf request; sheet = sheet; whole = step-sheet b (eqb-true (stepRefusal b) 0 e) }
 
     the-outcome : stepOutcome b ≡ step (enter s theSent) (theSent .request)
     unfolding stepOutcome enter theSent
     the-outcome j = step (record { tables = decoded d s h j; store = h .store j; sheet = sheet }) (requestOf request)
 
-    is-left : stepImage b ≡ host.leftBy (stepOutcome b)
-    unfolding stepImage
-    is-left = rw e
+    is-left : stepImage b ≡ leftBy (stepOutcome b)
+    is-left = step-served b (eqb-true (stepRefusal b) 0 e)
 
     pub step-result : stepImage b .result ≡ step (enter s theSent) (theSent .request) .answer .result
-    unfolding host.leftBy
+    unfolding leftBy
     step-result = (λ i. is-left i .result) ∙ ap (λ (o : Outcome). o .answer .result) the-outcome
 
     pub step-low : stepImage b .result ≤ 12
@@ -86,18 +72,18 @@ module _ (d : Dock) (sheet request answer : List ℕ) where
         (result-at-most-12 (enter s theSent) (theSent .request) (record { tables = h .ok .tables; store = h .ok .store }) (theSent .whole))
 
     pub step-same : made d (stepping sheet request answer) ≡ traced s (theSent ∷ [])
-    unfolding made traced theSent inStep host.leftBy
+    unfolding made traced theSent inStep leftBy
     step-same =
         let exch : inStep sheet request (stepImage b) ≡ seenBy theSent (step (enter s theSent) (theSent .request)) =
         ap (inStep sheet request) is-left ∙ ap (λ (o : Outcome). seenBy theSent o) the-outcome in
         rw e (ap (λ (x : Exchange). x ∷ []) exch)
 
-    pub step-left : left d (stepping sheet request answer) ≡ dockIn (host.leftBy (step (enter s theSent) (theSent .request)))
+    pub step-left : left d (stepping sheet request answer) ≡ dockIn (leftBy (step (enter s theSent) (theSent .request)))
     unfolding left
-    step-left = ap dockIn (is-left ∙ ap host.leftBy the-outcome)
+    step-left = ap dockIn (is-left ∙ ap leftBy the-outcome)
 
     step-makes : Makes d (stepping sheet request answer) s
-    unfolding after host.leftBy enter
+    unfolding after leftBy enter
     step-makes = record {
       sent = theSent ∷ [];
       same = step-same;
@@ -113,4 +99,4 @@ module _ (d : Dock) (sheet request answer : List ℕ) where
     where
       go : Case (eqb (stepRefusal b) 0) → Makes d (stepping sheet request answer) s
       go (pass e) = step-makes s h e
-      go (fail e) = nothing-made d (stepping sheet request answer) s (step-refused e) (step-untouched e) h
+      go (fail e) = nothing-made d (stepping sheet request answer) s (none-made e) (dock-kept e) h
