@@ -4,7 +4,7 @@ ghost use mathlib.Core.Path.{_≡_};
 ghost use Rattle.image.specs.Layout.{imageSize};
 ghost use Rattle.lending.specs.Batch.{buffersOf, Leaves};
 ghost use Rattle.lending.specs.Trace.{traceBuffers, TracesLent};
-ghost use Rattle.lending.specs.Host.{emptyImage, EmptiesImage, stepImage, Steps, orderOf, checkImage};
+ghost use Rattle.lending.specs.Host.{EmptiesImage, Steps, orderOf, checkImage};
 ghost use Rattle.dock.specs.Version.{version};
 use image::IMAGE;
 use op_form::ANSWER;
@@ -33,7 +33,7 @@ pub extern "C" fn dock_tables_length() -> usize
 // Emptying: the image becomes that of empty tables, the store zeros.
 #[no_mangle]
 pub extern "C" fn dock_empty(tables: &mut [u8], store: &mut [u8]) -> u16
-    ensures { λ r. ⌜ EmptiesImage (emptyImage (now (tables .entry)) (now (store .entry))) r (now (tables .exit)) (now (store .exit)) ⌝ }
+    ensures { λ r. ⌜ EmptiesImage (now (tables .entry)) (now (store .entry)) r (now (tables .exit)) (now (store .exit)) ⌝ }
 {
     step::empty(tables, store)
 }
@@ -47,7 +47,7 @@ pub extern "C" fn dock_step(
     request: &[u16],
     answer: &mut [u16],
 ) -> u16
-    ensures { λ r. ⌜ Steps (stepImage (buffersOf (now (tables .entry)) (now (store .entry)) (now (sheet .entry)) (now (request .entry)) (now (answer .entry)))) r (now (tables .exit)) (now (store .exit)) (now (sheet .exit)) (now (answer .exit)) ⌝ }
+    ensures { λ r. ⌜ Steps (buffersOf (now (tables .entry)) (now (store .entry)) (now (sheet .entry)) (now (request .entry)) (now (answer .entry))) r (now (tables .exit)) (now (store .exit)) (now (sheet .exit)) (now (answer .exit)) ⌝ }
 {
     if request.len() != REQUEST {
         return 13;

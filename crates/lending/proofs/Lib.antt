@@ -1,4 +1,5 @@
 pub mod Lengths
 pub mod Refusals
 pub mod Served
+pub mod Kept
 pub mod IsSequence

@@ -11,14 +11,15 @@ use Rattle.lists.proofs.Tests.{Case, pass, fail, case, and-l, and-r}
 use Rattle.tables.specs.Order.{inOrder}
 use Rattle.machine.specs.declared.Request.{Request}
 use Rattle.machine.specs.State.{answerOf, stateOf}
+use Rattle.machine.specs.Numbers.{requestWidth, answerWidth}
 use Rattle.machine.specs.Refusal.{_when_else_}
 use Rattle.machine.specs.Dock.{dockCheck}
 use Rattle.machine.specs.Step.{step}
 use Rattle.machine.proofs.RefusalLaws.{when-past}
 use Rattle.image.specs.Layout.{imageSize}
 use Rattle.image.specs.Image.{decode, isImage}
-use Rattle.lending.specs.Batch.{tablesOk}
-use Rattle.lending.specs.Host.{orderOf, checkImage, lentRefusal, Stepped, steppedBy, stepLent}
+use Rattle.lending.specs.Batch.{Buffers, tablesOk, untouched}
+use Rattle.lending.specs.Host.{stepRefusal, stepOutcome, leftBy, stepImage, orderOf, checkImage, lentRefusal, Stepped, steppedBy, stepLent}
 
 -- ---- the tables' own test
 module _ (bytes : List ℕ) where
@@ -122,7 +123,7 @@ module _ (bytes : List ℕ) (store sheet : ℕ) where
         tables = not-false _ (when-past 14 (not (tablesOk bytes)) 0 0 (λ z. omega arith) (past .1) .0);
       }
 
--- ---- one request
+-- ---- one request as a caller in Rattle has it
 module _ (bytes store sheet : List ℕ) (r : Request) where
   pub is-refused : {n : ℕ} → n ≡ lentRefusal bytes (length store) (length sheet) → (n ≡ 0 → ⊥)
       → record { answer = answerOf n 0 0; tables = bytes; store = store; sheet = sheet } ≡ stepLent bytes store sheet r
@@ -134,3 +135,30 @@ module _ (bytes store sheet : List ℕ) (r : Request) where
   pub is-stepped : lentRefusal bytes (length store) (length sheet) ≡ 0 → steppedBy (step (stateOf (decode bytes) store sheet) r) ≡ stepLent bytes store sheet r
   unfolding stepLent
   is-stepped e = rw e
+
+-- ---- one request over a host's buffers
+module _ (b : Buffers) where
+  pub step-served : stepRefusal b ≡ 0 → stepImage b ≡ leftBy (stepOutcome b)
+  unfolding stepImage
+  step-served e = rw e
+
+  pub step-refused : (stepRefusal b ≡ 0 → ⊥) → stepImage b ≡ untouched b (stepRefusal b)
+  unfolding stepImage
+  step-refused ne = rw (ne-eqb (stepRefusal b) 0 ne)
+
+  abbrev fits : Bool
+  fits =
+      eqb (length (b .tables)) imageSize && eqb (length (b .store)) 16384 && eqb (length (b .sheets)) 64
+      && eqb (length (b .requests)) requestWidth && eqb (length (b .answers)) answerWidth
+
+  past-13 : stepRefusal b ≡ 0 → (not fits ≡ false) × ((14 when not (tablesOk (b .tables)) else 0) ≡ 0)
+  unfolding stepRefusal
+  past-13 e = when-past 13 (not fits) (14 when not (tablesOk (b .tables)) else 0) 0 (λ z. omega arith) e
+
+  pub step-sheet : stepRefusal b ≡ 0 → length (b .sheets) ≡ 64
+  step-sheet e =
+      let all : fits ≡ true = not-false fits (past-13 e .0) in
+      eqb-true (length (b .sheets)) 64 (search (and-l, and-r) depth 8)
+
+  pub step-tables : stepRefusal b ≡ 0 → tablesOk (b .tables) ≡ true
+  step-tables e = not-false _ (when-past 14 (not (tablesOk (b .tables))) 0 0 (λ z. omega arith) (past-13 e .1) .0)

@@ -7,7 +7,7 @@ use mathlib.Core.Bool.{not, _&&_, cond}
 use mathlib.Core.List.{List}
 use lib.Dec.{eqb}
 use lib.ListN.{length}
-use Rattle.tables.specs.Names.{nameOf}
+use Rattle.tables.specs.Names.{nameOf, emptyTables}
 use Rattle.machine.specs.declared.{Request.Request, Answer.Answer}
 use Rattle.machine.specs.State.{Outcome, answerOf, stateOf}
 use Rattle.machine.specs.Numbers.{requestWidth, requestOf, answerWidth, answerNumbers}
@@ -32,10 +32,13 @@ emptyImage tables store =
     let refused : EmptiedImage = record { result = 13; tables = tables; store = store } in
     cond (eqb (length tables) imageSize) empty refused
 
-pub record EmptiesImage (e : EmptiedImage) (result′ : ℕ) (tables′ store′ : List ℕ) : Type 0 where
-  pub result : result′ ≡ e .result
-  pub tables : tables′ ≡ e .tables
-  pub store : store′ ≡ e .store
+-- what a call leaves, field by field
+pub record EmptiesImage (image bytes : List ℕ) (result′ : ℕ) (tables′ store′ : List ℕ) : Type 0 where
+  pub result : result′ ≡ emptyImage image bytes .result
+  pub tables : tables′ ≡ emptyImage image bytes .tables
+  pub store : store′ ≡ emptyImage image bytes .store
+  -- an image of its own length is read as "empty tables", with a store of another length too
+  pub decoded : length image ≡ imageSize → decode tables′ ≡ emptyTables
 
 -- ---- one request
 unfoldable pub stepRefusal : Buffers → ℕ
@@ -66,12 +69,17 @@ stepImage b =
     let refused = untouched b refusal in
     cond (eqb refusal 0) served refused
 
-pub record Steps (l : Left) (result′ : ℕ) (tables′ store′ sheet′ answer′ : List ℕ) : Type 0 where
-  pub result : result′ ≡ l .result
-  pub tables : tables′ ≡ l .tables
-  pub store : store′ ≡ l .store
-  pub sheet : sheet′ ≡ l .sheets
-  pub answer : answer′ ≡ l .answers
+-- what a call leaves, field by field
+pub record Steps (b : Buffers) (result′ : ℕ) (tables′ store′ sheet′ answer′ : List ℕ) : Type 0 where
+  pub result : result′ ≡ stepImage b .result
+  pub tables : tables′ ≡ stepImage b .tables
+  pub store : store′ ≡ stepImage b .store
+  pub sheet : sheet′ ≡ stepImage b .sheets
+  pub answer : answer′ ≡ stepImage b .answers
+  -- the image is read as the tables that the request leaves, so that the next call finds them "exactly as the one before it left them"
+  pub decoded : stepRefusal b ≡ 0 → decode tables′ ≡ stepOutcome b .state .tables
+  -- "Every refusal leaves tables .. untouched, except 12": byte for byte
+  pub asBefore : (result′ ≡ 0 → ⊥) → (result′ ≡ 12 → ⊥) → tables′ ≡ b .tables
 
 -- ---- one request as a caller in Rattle has it: a record in, a record out
 unfoldable pub lentRefusal : List ℕ → ℕ → ℕ → ℕ
@@ -98,11 +106,15 @@ stepLent tables store sheet r =
     let refused : Stepped = record { answer = answerOf refusal 0 0; tables = tables; store = store; sheet = sheet } in
     cond (eqb refusal 0) served refused
 
-pub record StepsLent (s : Stepped) (a : Answer) (tables′ store′ sheet′ : List ℕ) : Type 0 where
-  pub answer : a ≡ s .answer
-  pub tables : tables′ ≡ s .tables
-  pub store : store′ ≡ s .store
-  pub sheet : sheet′ ≡ s .sheet
+-- what a call leaves, field by field; `decoded` and `asBefore` as in `Steps`
+pub record StepsLent (image bytes buffer : List ℕ) (r : Request) (a : Answer) (tables′ store′ sheet′ : List ℕ) : Type 0 where
+  pub answer : a ≡ stepLent image bytes buffer r .answer
+  pub tables : tables′ ≡ stepLent image bytes buffer r .tables
+  pub store : store′ ≡ stepLent image bytes buffer r .store
+  pub sheet : sheet′ ≡ stepLent image bytes buffer r .sheet
+  pub decoded : lentRefusal image (length bytes) (length buffer) ≡ 0
+      → decode tables′ ≡ step (stateOf (decode image) bytes buffer) r .state .tables
+  pub asBefore : (a .result ≡ 0 → ⊥) → (a .result ≡ 12 → ⊥) → tables′ ≡ image
 
 -- ---- the order test and the dock's own check
 unfoldable pub orderOf : List ℕ → ℕ

@@ -1,4 +1,5 @@
 pub mod RefusalLaws
+pub mod Untouched
 pub mod CaseLines
 pub mod WorkedCases
 pub mod Traps

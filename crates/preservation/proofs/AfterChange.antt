@@ -80,7 +80,7 @@ module _ (gone cut : Name → Bool) (t : Tables) where
   unfolding dropEntry
   entries-length = dropped-length entryKeys entryLaws cut (t .entries)
 
-  sized-removed : Sized t → Sized (removed gone cut t)
+  pub sized-removed : Sized t → Sized (removed gone cut t)
   unfolding dropEntries dropTickets
   sized-removed z =
       let d = dropped-sized gone t z in

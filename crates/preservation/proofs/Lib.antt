@@ -14,6 +14,7 @@ pub mod Taking
 pub mod Passing
 pub mod PassKeeps
 pub mod Preconditions
+pub mod SizedKept
 pub mod StoreSheets
 pub mod DockCheck
 pub mod Results

@@ -2,34 +2,25 @@
 -- So 13 and 14 come from the first two tests alone.
 use Prim.Native.Nat.{ℕ, _≤_}
 use native.Mathlib.Omega.{arith}
-use mathlib.Core.Path.{_≡_, refl, sym, _∙_}
+use mathlib.Core.Path.{_≡_, sym, _∙_}
 use mathlib.Core.Bool.{Bool}
 use lib.Dec.{eqb}
 use borrow.Author.Tests.{eqb-true}
 use Rattle.lists.proofs.Tests.{Case, pass, fail, case}
 use Rattle.tables.specs.declared.Tables.{Tables}
 use Rattle.machine.specs.declared.Request.{Request}
-use Rattle.machine.specs.State.{State, accepted, refused}
+use Rattle.machine.specs.State.{State, refused}
 use Rattle.machine.specs.Refusal.{_when_else_}
 use Rattle.machine.specs.Operation.{Operation, taking, passing, recalling, givingBack, reading, writing, operationOf}
 use Rattle.machine.specs.Dock.{dockRefusal}
-use Rattle.machine.specs.Take.{takeRefusal, afterTake}
-use Rattle.machine.specs.Pass.{passRefusal, afterPass}
-use Rattle.machine.specs.Recall.{recallRefusal, afterRecall}
-use Rattle.machine.specs.GiveBack.{giveBackRefusal, afterGiveBack}
-use Rattle.machine.specs.Access.{accessRefusal, afterRead, afterWrite}
-use Rattle.machine.specs.Step.{ownRefusal, requestRefusal, afterOwn, outcome, serve}
+use Rattle.machine.specs.Take.{takeRefusal}
+use Rattle.machine.specs.Pass.{passRefusal}
+use Rattle.machine.specs.Recall.{recallRefusal}
+use Rattle.machine.specs.GiveBack.{giveBackRefusal}
+use Rattle.machine.specs.Access.{accessRefusal}
+use Rattle.machine.specs.Step.{ownRefusal, requestRefusal, outcome, serve}
 use Rattle.machine.proofs.RefusalLaws.{when-at-most}
-
--- an accepted operation answers 0
-own-result : (o : Operation) (s : State) (r : Request) → afterOwn o s r .answer .result ≡ 0
-unfolding afterOwn accepted afterTake afterPass afterRecall afterGiveBack afterRead afterWrite
-own-result taking s r = refl
-own-result passing s r = refl
-own-result recalling s r = refl
-own-result givingBack s r = refl
-own-result reading s r = refl
-own-result writing s r = refl
+use Rattle.machine.proofs.Untouched.{own-result}
 
 pub serve-result : (s : State) (r : Request) → serve s r .answer .result ≡ requestRefusal (s .tables) r
 unfolding serve outcome refused

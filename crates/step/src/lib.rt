@@ -1,7 +1,7 @@
 // The public routines over the tables' image, where it lies: emptying the dock, the order test, the dock's own check, and the step that
 // serves one request. None asks anything of its caller.
 ghost use mathlib.Core.Path.{_≡_};
-ghost use Rattle.lending.specs.Host.{emptyImage, EmptiesImage, orderOf, checkImage, lentRefusal, stepLent, StepsLent};
+ghost use Rattle.lending.specs.Host.{EmptiesImage, orderOf, checkImage, lentRefusal, StepsLent};
 use image::IMAGE;
 use machine::Answer;
 use machine::Request;
@@ -12,7 +12,7 @@ use tables::Name;
 // Tables without tickets or entries, which are zeros, and a store of zeros; with a store of another length 13, empty tables and the store
 // untouched; with an image of another length 13, and nothing changes.
 pub fn empty(tables: &mut [u8], store: &mut [u8]) -> u16
-    ensures { λ r. ⌜ EmptiesImage (emptyImage (now (tables .entry)) (now (store .entry))) r (now (tables .exit)) (now (store .exit)) ⌝ }
+    ensures { λ r. ⌜ EmptiesImage (now (tables .entry)) (now (store .entry)) r (now (tables .exit)) (now (store .exit)) ⌝ }
 {
     if tables.len() != IMAGE {
         return 13;
@@ -65,7 +65,7 @@ pub fn refusal(tables: &[u8], store: usize, sheet: usize) -> u16
 
 // 13, 14, 1, 2, 3, then the operation.
 pub fn step(tables: &mut [u8], store: &mut [u8], sheet: &mut [u8], r: Request) -> Answer
-    ensures { λ a. ⌜ StepsLent (stepLent (now (tables .entry)) (now (store .entry)) (now (sheet .entry)) r) a (now (tables .exit)) (now (store .exit)) (now (sheet .exit)) ⌝ }
+    ensures { λ a. ⌜ StepsLent (now (tables .entry)) (now (store .entry)) (now (sheet .entry)) r a (now (tables .exit)) (now (store .exit)) (now (sheet .exit)) ⌝ }
 {
     let early = refusal(tables, store.len(), sheet.len());
     if early != 0 {

@@ -33,8 +33,8 @@ use Rattle.trace_texts.specs.Line.{otherLine}
 use Rattle.trace_texts.specs.Trace.{longestInput, traceRoom, inputNames, outputNames, answers, afterLines, inputOk, traceFrom, afterTrace, trace}
 use Rattle.lending.specs.Trace.{dockOf}
 use Rattle.text_trace.specs.Contract.{Servable, LeavesDock}
-use Rattle.text_trace.proofs.AnswerLine.{other-short}
-use Rattle.text_trace.proofs.AnswersLaws.{answers-fit, trace-short-from}
+use Rattle.trace_texts.proofs.AnswerLine.{other-short}
+use Rattle.trace_texts.proofs.AnswersLaws.{answers-fit, trace-short-from}
 
 -- ---- the emptied dock, as an image and a store of zeros
 zeros-tables : decode (replicate imageSize 0) ≡ emptyTables

@@ -1,4 +1,5 @@
 -- The lengths of request and answer, then 13 and 14, then the request is served and its answer written.
+use native.Mathlib.Omega.{arith}
 use mathlib.Core.Path.{sym, _∙_}
 use borrow.Author.Needs.{needs}
 use Rattle.lending.specs.Batch.{buffersOf}
@@ -61,7 +62,7 @@ returns-4 : tie.Need-returns-4
 returns-4 c =
     let a = c .before .before .before .before .before .before .before .before .before .before .before .before .before .before .before .before .before .before .before .before .before .before .before .before .before .args in
     served (buffersOf (a .tables .now) (a .store .now) (a .sheet .now) (a .request .now) (a .answer .now)) (c .before .before .before .before .before .before .before .before .before .before .before .before .before .before .before .before .before .before .before .if1 .left) (c .before .before .before .before .before .before .before .before .before .before .before .before .before .before .before .before .before .before .if2 .left)
-    (sym (c .before .before .before .before .before .before .before .before .before .before .before .before .before .before .before .before .refusal .ensures) ∙ c .before .before .before .before .before .before .before .before .before .before .before .before .before .before .before .if3 .left) _ (c .before .before .before .before .before .before .before .before .before .before .before .request-in .ensures) (c .before .before .before .before .before .before .before .before .before .before .request .result) _ _ _ (c .before .before .before .before .before .before .before .before .before .before .request .ensures) (c .before .before .put-answer .ensures)
+    (sym (c .before .before .before .before .before .before .before .before .before .before .before .before .before .before .before .before .refusal .ensures) ∙ c .before .before .before .before .before .before .before .before .before .before .before .before .before .before .before .if3 .left) _ (c .before .before .before .before .before .before .before .before .before .before .before .request-in .ensures) (c .before .before .before .before .before .before .before .before .before .before .request .result) _ _ _ (c .before .before .before .before .before .before .before .before .before .before .request .ensures) (λ i. omega (arith, c .before .before .before .before .before .before .before .before .before .before .before .before .before .before .before .before .before .before .before .before .before .before .before .before .slice-known .given i)) (c .before .before .put-answer .ensures)
 
 pub dock-step-spec : {M : Type 1} → statement M
 dock-step-spec =

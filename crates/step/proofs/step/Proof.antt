@@ -1,4 +1,5 @@
 -- 13 and 14 leave everything as it is; past them the step is serving.
+use native.Mathlib.Omega.{arith}
 use mathlib.Core.Path.{sym, _∙_}
 use borrow.Author.Needs.{needs}
 use Rattle.lending.proofs.Refusals.{tables-image, tables-order, not-refused}
@@ -42,7 +43,7 @@ same-length-4 c = search needs
 returns-2 : tie.Need-returns-2
 returns-2 c =
     let a = c .before .before .before .before .before .before .before .before .before .before .before .before .before .before .before .before .args in
-    as-served (a .tables .now) (a .store .now) (a .sheet .now) (a .r) (sym (c .before .before .before .before .before .before .before .before .before .before .before .refusal .ensures) ∙ c .before .before .before .before .before .before .before .before .before .before .if1 .left) (c .before .before .before .before .before .before .request .ensures)
+    as-served (a .tables .now) (a .store .now) (a .sheet .now) (a .r) (λ i. omega (arith, c .before .before .before .before .before .before .before .before .before .before .before .before .before .before .before .slice-known .given i)) (sym (c .before .before .before .before .before .before .before .before .before .before .before .refusal .ensures) ∙ c .before .before .before .before .before .before .before .before .before .before .if1 .left) (c .before .before .before .before .before .before .request .ensures)
 
 pub step-spec : {M : Type 1} → statement M
 step-spec =

@@ -1,0 +1,132 @@
+-- The claim for hosts is not weaker than demand 3: each sequence of requests is what a host gets that makes them one by one. So it holds of
+-- hosts only because it holds of the machine, and each of its conditions counts as there (isolation/proofs/EachPremiseCounts).
+use Prim.Native.Nat.{ℕ}
+use mathlib.Core.Path.{_≡_, refl, ap, _∙_}
+use mathlib.Core.Bool.{true, false}
+use mathlib.Core.List.{List, [], _∷_, _++_, map}
+use lib.Dec.{eqb}
+use lib.ListN.{getD, replicate, length-replicate}
+use borrow.Author.Tests.{eq-eqb}
+use Rattle.lists.specs.Lists.{some}
+use Rattle.machine.specs.declared.Request.{Request}
+use Rattle.machine.specs.State.{State}
+use Rattle.machine.specs.Step.{step}
+use Rattle.machine.specs.Empty.{emptyDock}
+use Rattle.machine.specs.Sequence as machine
+use Rattle.machine.specs.Sequence.{Sent, enter, groupExchanges}
+use Rattle.machine.specs.Isolation as claim
+use Rattle.machine.specs.Isolation.{ForEvery, no-left, no-right, both, IsolatedFromEmpty}
+use Rattle.preservation.proofs.StepKeepsOrder.{step-keeps}
+use Rattle.isolation.proofs.TwoSequences.{head-both, tail-both}
+use Rattle.image.specs.Image.{encode}
+use Rattle.image.proofs.RoundTrip.{encode-is-image, image-whole}
+use Rattle.tables.specs.Names.{emptyTables}
+use Rattle.machine.specs.Numbers.{requestOf, answerWidth, answerNumbers}
+use Rattle.lending.specs.Host.{stepRefusal, leftBy}
+use Rattle.host_isolation.specs.Calls.{Dock, Whole, Call, emptying, stepping, lent, result, left, Exchange, made, empties, exchanges, noneCrosses, ofGroup, Given, Agree, IsolatedForHosts}
+use Rattle.host_isolation.proofs.Traced.{seenBy, traced, asSeen, edge-seen, group-seen}
+use Rattle.host_isolation.proofs.Stands.{Stands, emptied-stands}
+use Rattle.host_isolation.proofs.OneCall.{theSent, step-result, step-same, step-left}
+use Rattle.host_isolation.proofs.ForHosts.{step-0}
+
+-- ---- a request as a call
+unfoldable pub numbersOf : Request → List ℕ
+numbersOf r =
+    r .pad ∷ r .program ∷ r .op ∷ r .ticket ∷ r .topad ∷ r .toprogram ∷ r .first ∷ r .count ∷ r .rights ∷ []
+
+numbers-back : (r : Request) → requestOf (numbersOf r) ≡ r
+unfolding numbersOf
+numbers-back r = refl
+
+abbrev pub callFor : Sent → Call
+callFor i = stepping (i .sheet) (numbersOf (i .request)) (replicate answerWidth 0)
+
+pub callsFor : List Sent → List Call
+callsFor [] = []
+callsFor (i ∷ is) = callFor i ∷ callsFor is
+
+none-empties : (is : List Sent) → some empties (callsFor is) ≡ false
+unfolding some callsFor
+none-empties [] = refl
+none-empties (i ∷ is) = none-empties is
+
+module _ (d : Dock) (s : State) (h : Stands d s) (i : Sent) where
+  is-served : eqb (stepRefusal (lent d (i .sheet) (numbersOf (i .request)) (replicate answerWidth 0))) 0 ≡ true
+  unfolding numbersOf
+  is-served = eq-eqb _ 0 (step-0 d s h (i .sheet) (numbersOf (i .request)) (replicate answerWidth 0) (i .whole) refl refl)
+
+  pub one-made : made d (callFor i) ≡ seenBy i (step (enter s i) (i .request)) ∷ []
+  unfolding traced theSent enter numbersOf
+  one-made = step-same d (i .sheet) (numbersOf (i .request)) (replicate answerWidth 0) s h is-served
+
+  pub one-result : result d (callFor i) ≡ step (enter s i) (i .request) .answer .result
+  unfolding result theSent enter numbersOf
+  one-result = step-result d (i .sheet) (numbersOf (i .request)) (replicate answerWidth 0) s h is-served
+
+  pub one-left : Stands (left d (callFor i)) (step (enter s i) (i .request) .state)
+  unfolding theSent enter numbersOf leftBy
+  one-left =
+      let l = step-left d (i .sheet) (numbersOf (i .request)) (replicate answerWidth 0) s h is-served in
+      record {
+        image = λ j. l j .image;
+        store = λ j. l j .store;
+        ok = step-keeps (enter s i) (i .request) (record { tables = h .ok .tables; store = h .ok .store }) (i .whole);
+      }
+
+-- ---- a sequence as calls
+all-made : (is : List Sent) (d : Dock) (s : State) → Stands d s → exchanges d (callsFor is) ≡ traced s is
+unfolding exchanges callsFor traced
+all-made [] d s h = refl
+all-made (i ∷ is) d s h =
+    rw (none-empties is)
+    (λ j. one-made d s h i j ++ all-made is (left d (callFor i)) (step (enter s i) (i .request) .state) (one-left d s h i) j)
+
+pub sequence-made : (d : Dock) → Whole d → (is : List Sent) → exchanges d (emptying ∷ callsFor is) ≡ traced emptyDock is
+unfolding exchanges made
+sequence-made d w is = rw (none-empties is) (all-made is (left d emptying) emptyDock (emptied-stands d w))
+
+-- ---- so demand 3 follows from the claim for hosts
+given-one : (x y : machine.Exchange) → claim.Given x y → Given (asSeen x) (asSeen y)
+unfolding answerNumbers
+given-one x y h = record { numbers = h .numbers; written = h .written; eleven = h .eleven }
+
+given-called : (xs ys : List machine.Exchange) → ForEvery claim.Given xs ys → ForEvery Given (map asSeen xs) (map asSeen ys)
+given-called [] ys h = no-left
+given-called (x ∷ xs) [] h = no-right
+given-called (x ∷ xs) (y ∷ ys) h = both (given-one x y (head-both h)) (given-called xs ys (tail-both h))
+
+agree-one : (x y : machine.Exchange) → Agree (asSeen x) (asSeen y) → claim.Agree x y
+unfolding answerNumbers
+agree-one x y h =
+    let n = h .answers in
+    record {
+      answers = λ j. record { result = getD (n j) 0 0; ticket = getD (n j) 1 0; recipient = getD (n j) 2 0 };
+      read = h .read;
+    }
+
+agree-called : (xs ys : List machine.Exchange) → ForEvery Agree (map asSeen xs) (map asSeen ys) → ForEvery claim.Agree xs ys
+agree-called [] ys h = no-left
+agree-called (x ∷ xs) [] h = no-right
+agree-called (x ∷ xs) (y ∷ ys) h = both (agree-one x y (head-both h)) (agree-called xs ys (tail-both h))
+
+-- some dock of the right lengths
+pub anyDock : Dock
+anyDock = record { image = encode emptyTables; store = replicate 16384 0 }
+
+pub any-whole : Whole anyDock
+unfolding anyDock
+any-whole = record { image = image-whole (encode emptyTables) (encode-is-image emptyTables); store = length-replicate {A = ℕ} 16384 0 }
+
+pub hosts-are-enough : IsolatedForHosts → IsolatedFromEmpty
+hosts-are-enough hosts g is js a b given =
+    let ours = sequence-made anyDock any-whole is in
+    let theirs = sequence-made anyDock any-whole js in
+    let mine : ofGroup g (exchanges anyDock (emptying ∷ callsFor is)) ≡ map asSeen (groupExchanges g emptyDock is) =
+    ap (ofGroup g) ours ∙ group-seen g emptyDock is in
+    let yours : ofGroup g (exchanges anyDock (emptying ∷ callsFor js)) ≡ map asSeen (groupExchanges g emptyDock js) =
+    ap (ofGroup g) theirs ∙ group-seen g emptyDock js in
+    agree-called (groupExchanges g emptyDock is) (groupExchanges g emptyDock js)
+    (rw (mine, yours)
+    at (hosts g anyDock anyDock (callsFor is) (callsFor js)
+    (ap (noneCrosses g) ours ∙ edge-seen g emptyDock is ∙ a) (ap (noneCrosses g) theirs ∙ edge-seen g emptyDock js ∙ b)
+    (rw (mine, yours) (given-called (groupExchanges g emptyDock is) (groupExchanges g emptyDock js) given))))

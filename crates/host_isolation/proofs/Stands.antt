@@ -1,0 +1,63 @@
+-- A host's dock that stands for a state in order: its image is that of the tables, and is read as them. Such a dock is whole and passes the
+-- order test. An emptied dock stands for the machine's.
+use Prim.Native.Nat.{ℕ}
+use mathlib.Core.Path.{_≡_, ap, _∙_}
+use mathlib.Core.Bool.{true}
+use mathlib.Core.List.{List}
+use lib.ListN.{length}
+use borrow.Author.Tests.{eq-eqb}
+use Rattle.lists.proofs.Tests.{and-intro}
+use Rattle.tables.specs.Names.{emptyTables}
+use Rattle.tables.specs.Order.{inOrder}
+use Rattle.machine.specs.State.{State}
+use Rattle.machine.specs.Refusal.{_when_else_}
+use Rattle.machine.specs.Empty.{emptied, emptyDock, emptyStore}
+use Rattle.preservation.specs.InOrder.{DockOk}
+use Rattle.preservation.proofs.OrderPassesTest.{order-passes-test}
+use Rattle.preservation.proofs.StepKeepsOrder.{empty-dock-ok}
+use Rattle.image.specs.Layout.{imageSize}
+use Rattle.image.specs.Image.{encode, decode, isImage}
+use Rattle.image.proofs.RoundTrip.{decode-encode, encode-is-image, image-whole}
+use Rattle.lending.specs.Batch.{tablesOk}
+use Rattle.lending.specs.Host.{EmptiedImage, emptyImage, orderOf}
+use Rattle.host_isolation.specs.Calls.{Dock, Whole, emptying, left}
+
+pub record Stands (d : Dock) (s : State) : Type 0 where
+  pub image : d .image ≡ encode (s .tables)
+  pub store : d .store ≡ s .store
+  pub ok : DockOk s
+
+module _ (d : Dock) (s : State) (h : Stands d s) where
+  pub decoded : decode (d .image) ≡ s .tables
+  decoded = ap decode (h .image) ∙ decode-encode (s .tables) (h .ok .tables .order .shape .sized)
+
+  pub is-image : isImage (d .image) ≡ true
+  is-image = ap isImage (h .image) ∙ encode-is-image (s .tables)
+
+  pub in-order : inOrder (decode (d .image)) ≡ true
+  in-order = ap inOrder decoded ∙ order-passes-test (s .tables) (h .ok .tables .order)
+
+  pub tables-ok : tablesOk (d .image) ≡ true
+  unfolding tablesOk
+  tables-ok = and-intro is-image in-order
+
+  pub stands-whole : Whole d
+  stands-whole = record { image = image-whole (d .image) is-image; store = ap length (h .store) ∙ h .ok .store }
+
+  pub order-0 : orderOf (d .image) ≡ 0
+  unfolding orderOf _when_else_
+  order-0 = rw (eq-eqb (length (d .image)) imageSize (stands-whole .image), tables-ok)
+
+-- ---- emptying
+abbrev emptyOf : EmptiedImage
+emptyOf = record { result = 0; tables = encode emptyTables; store = emptyStore }
+
+pub is-emptied : (image store : List ℕ) → length image ≡ imageSize → length store ≡ 16384 → emptyImage image store ≡ emptyOf
+unfolding emptyImage emptied
+is-emptied image store a b = rw (eq-eqb (length image) imageSize a, eq-eqb (length store) 16384 b)
+
+pub emptied-stands : (d : Dock) → Whole d → Stands (left d emptying) emptyDock
+unfolding left emptyDock
+emptied-stands d w =
+    let e = is-emptied (d .image) (d .store) (w .image) (w .store) in
+    record { image = λ i. e i .tables; store = λ i. e i .store; ok = empty-dock-ok }
