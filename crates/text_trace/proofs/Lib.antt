@@ -1,6 +1,4 @@
 pub mod LineReading
-pub mod AnswerLine
-pub mod AnswersLaws
 pub mod SameDock
 pub mod LineServed
 pub mod TraceSteps

@@ -20,7 +20,7 @@ use Rattle.trace_texts.specs.Line.{inForm, sentBy, answerLine, firstByte, other
 use Rattle.trace_texts.specs.Trace.{servedBy, answerTo, leftByLine}
 use Rattle.text_trace.specs.declared.Asked.{Asked}
 use Rattle.text_trace.specs.Contract.{Reads, Servable, LeavesDock}
-use Rattle.text_trace.proofs.AnswersLaws.{answer-served, answer-other, left-served, left-other}
+use Rattle.trace_texts.proofs.AnswersLaws.{answer-served, answer-other, left-served, left-other}
 
 -- ---- an image that stays as it is
 module _ (sure : Bool) (image bytes : List ℕ) (small : (j : ℕ) → getD image j 0 < 256) (ready : Servable sure image bytes) where

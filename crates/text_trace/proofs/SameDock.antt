@@ -9,7 +9,7 @@ use Rattle.machine.specs.Step.{step}
 use Rattle.machine.specs.Sequence.{Sent, enter}
 use Rattle.trace_texts.specs.Line.{inForm, sentBy, answerLine, firstByte, otherLine}
 use Rattle.trace_texts.specs.Trace.{servedBy, answerTo, leftByLine, answers, afterLines}
-use Rattle.text_trace.proofs.AnswersLaws.{left-served, left-other}
+use Rattle.trace_texts.proofs.AnswersLaws.{left-served, left-other}
 
 pub record SameDock (s s′ : State) : Type 0 where
   pub tables : s .tables ≡ s′ .tables

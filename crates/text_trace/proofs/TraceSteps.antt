@@ -20,7 +20,7 @@ use Rattle.text.proofs.Appending.{append-as, append-none, append-both}
 use Rattle.trace_texts.specs.Trace.{answerTo, leftByLine, answers, afterLines}
 use Rattle.lending.specs.Trace.{dockOf}
 use Rattle.text_trace.specs.Contract.{Servable, LinesFrom, LeavesDock}
-use Rattle.text_trace.proofs.AnswersLaws.{answers-none, answers-more, after-none, after-more}
+use Rattle.trace_texts.proofs.AnswersLaws.{answers-none, answers-more, after-none, after-more}
 use Rattle.text_trace.proofs.SameDock.{SameDock, same-trans, same-sym, same-of, same-answers, same-after}
 use Rattle.text_trace.proofs.LineServed.{same-image, still-ready}
 

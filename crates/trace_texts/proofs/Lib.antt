@@ -1,1 +1,3 @@
+pub mod AnswerLine
+pub mod AnswersLaws
 pub mod WholeTexts

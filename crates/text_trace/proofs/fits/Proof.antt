@@ -11,7 +11,7 @@ use Rattle.image.proofs.RoundTrip.{image-whole}
 use Rattle.lending.specs.Trace.{dockOf}
 use Rattle.text.proofs.Appending.{measured}
 use Rattle.trace_texts.specs.Trace.{traceFrom}
-use Rattle.text_trace.proofs.AnswersLaws.{trace-short-from}
+use Rattle.trace_texts.proofs.AnswersLaws.{trace-short-from}
 use Rattle.text_trace.proofs.LineServed.{same-ready}
 use Rattle.text_trace.proofs.fits.Statement.{statement}
 use Rattle.text_trace.proofs.fits.Tie as tie

@@ -1,4 +1,4 @@
--- The answers line by line, and how long they can be: at most 15 bytes for each byte of the input.
+-- The answers line by line, and how long they can be, from any state: at most 15 bytes for each byte of the input.
 use Prim.Native.Nat.{ℕ, _+_, _*_, _≤_}
 use native.Mathlib.Omega.{arith}
 use mathlib.Core.Path.{_≡_, refl}
@@ -10,12 +10,13 @@ use borrow.Author.Tests.{leb-true, eqb-true}
 use Rattle.lists.specs.Lists.{all}
 use Rattle.lists.proofs.Tests.{Case, pass, fail, case, and-l}
 use Rattle.machine.specs.State.{State}
+use Rattle.machine.specs.Empty.{emptyDock}
 use Rattle.text.specs.Bytes.{bytes, space, lineEnd}
 use Rattle.text.specs.Names.{behindNames}
 use Rattle.text.specs.Reading.{inFront, cut, lines, fields, isValue, hasValues}
 use Rattle.trace_texts.specs.Line.{inputColumns, inForm, sentBy, answerLine, firstByte, otherLine}
-use Rattle.trace_texts.specs.Trace.{longestInput, traceRoom, outputNames, servedBy, answerTo, leftByLine, answers, afterLines, inputOk, traceFrom}
-use Rattle.text_trace.proofs.AnswerLine.{answer-short, other-short}
+use Rattle.trace_texts.specs.Trace.{longestInput, traceRoom, outputNames, servedBy, answerTo, leftByLine, answers, afterLines, inputOk, traceFrom, trace}
+use Rattle.trace_texts.proofs.AnswerLine.{answer-short, other-short}
 
 -- ---- line by line
 module _ (number : ℕ) (s : State) (line : List ℕ) where
@@ -139,3 +140,6 @@ trace-short-from s input = go (case (inputOk input))
         → length (outputNames ++ lineEnd ∷ cond (inputOk input) (answers 1 s (behindNames (lines input))) (otherLine 0)) ≤ traceRoom
     go (pass e) = rw e (simp length-append (omega (arith, names-long, answers-fit s input e)))
     go (fail e) = rw e (simp length-append (omega (arith, names-long, other-short 0)))
+
+pub trace-short : (input : List ℕ) → length (trace input) ≤ traceRoom
+trace-short = trace-short-from emptyDock
