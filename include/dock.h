@@ -229,20 +229,21 @@ uint16_t dock_check(const uint8_t *tables, size_t tables_length,
 uint16_t dock_in_order(const uint8_t *tables, size_t tables_length);
 
 /*
- * The trace: requests as text, answers as text, as the trace program has them, on this dock. The
- * input's first line is
+ * The trace: requests as text in, answers as text out, as the trace program has them, on this dock.
+ * The input's first line is
  *     pad program op ticket topad toprogram first count rights fill
- * and each line after it one request, served in turn as dock_step would with a sheet buffer of the
- * byte fill (of a write; otherwise 0). The trace begins with
+ * and each line behind it a request, served in turn as dock_step would; fill is the byte of a write's
+ * whole sheet buffer, 0 elsewhere. The output's first line is
  *     line result ticket recipient byte
- * and has one line for each of them: its number, from 1; its answer; the first byte of an accepted
- * read, or 0. A line of another form is answered 15 and changes nothing. An input with other names, or
- * longer than DOCK_TRACE_INPUT, is answered by the one line 0 15 0 0 0. Where tables that a host made
- * fall out of order midway, each request after that is answered 14.
- * Lengths: DOCK_TABLES, DOCK_STORE; of input and output any. The trace goes to the front of the output
- * and its length to *length. An output shorter than DOCK_TRACE_ROOM costs a second run, to measure.
- * DOCK_LENGTH, DOCK_NOT_IN_ORDER, or DOCK_OUTPUT where the output is too short for the whole trace:
- * nothing else is written, and *length is 0.
+ * and each line behind it tells of one request: the line's number, from 1; its answer; the first byte
+ * of an accepted read, or 0. A line of another form has the result 15 and changes nothing. An input
+ * with other names, or above DOCK_TRACE_INPUT bytes, has the one line 0 15 0 0 0. Where tables that a
+ * host made fall out of order midway, each request after that has the answer 14 0 0.
+ *
+ * Lengths: DOCK_TABLES, DOCK_STORE; input and output may have any. The trace goes to the front of the
+ * output and its length to *length. DOCK_LENGTH, DOCK_NOT_IN_ORDER, or 17 where the output is too
+ * short for the whole trace: *length is 0, and nothing else is written. An output below
+ * DOCK_TRACE_ROOM bytes costs a second run, for the length. Otherwise DOCK_ACCEPTED.
  */
 uint16_t dock_trace(uint8_t *tables, size_t tables_length, uint8_t *store, size_t store_length,
                     const uint8_t *input, size_t input_length,

@@ -34,7 +34,7 @@ use Rattle.trace_texts.specs.Trace.{longestInput, traceRoom, inputNames, output
 use Rattle.lending.specs.Trace.{dockOf}
 use Rattle.text_trace.specs.Contract.{Servable, LeavesDock}
 use Rattle.trace_texts.proofs.AnswerLine.{other-short}
-use Rattle.trace_texts.proofs.AnswersLaws.{answers-fit, trace-short-from}
+use Rattle.trace_texts.proofs.AnswersLaws.{answers-fit, trace-short}
 
 -- ---- the emptied dock, as an image and a store of zeros
 zeros-tables : decode (replicate imageSize 0) ≡ emptyTables
@@ -138,5 +138,5 @@ module _ (s : State) (input : List ℕ) where
 pub whole-in-buffer : (input before after : List ℕ) (r : ℕ) → length before ≡ traceRoom → Writes (trace input) before after r
     → take r after ≡ trace input
 whole-in-buffer input before after r long w =
-    let (output, total) = writes-fits (trace input) before after r (omega (arith, trace-short-from emptyDock input)) w in
+    let (output, total) = writes-fits (trace input) before after r (omega (arith, trace-short input)) w in
     ap (take r) output ∙ take-at (trace input) (drop (length (trace input)) before) r (sym total)

@@ -14,11 +14,14 @@ fn whole_trace(input: &[u8], out: &mut [u8]) -> usize
     text_trace::trace(input, out)
 }
 
-// One byte past the longest input is enough to know that it is too long.
+// One byte past the longest input is enough to know that it is too long. A trace that could not be written whole is said to be so: a
+// program has no exit status to tell it by, and no contract speaks of what C writes.
 fn main() {
     let mut input = [0u8; LONGEST + 1];
     let mut out = text_trace::buffer();
     let read = io::read_full(0, &mut input);
     let written = whole_trace(&input[..read], &mut out);
-    io::write_all(1, &out[..written]);
+    if !io::write_all(1, &out[..written]) {
+        io::write_all(2, b"trace: standard output can't be written\n");
+    }
 }
