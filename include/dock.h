@@ -241,8 +241,8 @@ uint16_t dock_in_order(const uint8_t *tables, size_t tables_length);
  * host made fall out of order midway, each request after that has the answer 14 0 0.
  *
  * Lengths: DOCK_TABLES, DOCK_STORE; input and output may have any. The trace goes to the front of the
- * output and its length to *length. DOCK_LENGTH, DOCK_NOT_IN_ORDER, or 17 where the output is too
- * short for the whole trace: *length is 0, and nothing else is written. An output below
+ * output and its length to *length. DOCK_LENGTH, DOCK_NOT_IN_ORDER, or DOCK_TOO_SHORT where the output is
+ * too short for the whole trace: *length is 0, and nothing else is written. An output below
  * DOCK_TRACE_ROOM bytes costs a second run, for the length. Otherwise DOCK_ACCEPTED.
  */
 uint16_t dock_trace(uint8_t *tables, size_t tables_length, uint8_t *store, size_t store_length,

@@ -74,8 +74,8 @@ pub fn of(command: &str) -> Result<(), Failure> {
 /// `dock help [COMMAND]`
 pub fn show(words: &[OsString]) -> Result<(), Failure> {
     match words {
-        [] => files::write(COMMANDS.as_bytes()),
-        [command, ..] => of(&command.to_string_lossy()),
+        [command, ..] if command != "--help" => of(&command.to_string_lossy()),
+        _ => files::write(COMMANDS.as_bytes()),
     }
 }
 
