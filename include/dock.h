@@ -52,10 +52,12 @@ extern "C" {
 #define DOCK_VERSION 10000
 
 /*
- * Bytes of stack that a call may take, its own frame included. tests/stack.c measures at most 19,832,
- * with a chain of 256 entries; this is not proved.
+ * Bytes of stack that a call may take, its own frame included; dock_trace has its own number, because
+ * it measures a trace on a copy of the dock. tests/stack.c measures at most 19,832 and 47,416, with
+ * chains and rings of 256 entries; this is not proved.
  */
 #define DOCK_STACK 32768
+#define DOCK_TRACE_STACK 65536
 
 /* How many there are. */
 #define DOCK_PADS 4      /* pads 0 to 3 */

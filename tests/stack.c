@@ -1,6 +1,6 @@
 /*
  * How much stack the library's functions take. Each is called on a stack that was filled with one byte; the deepest byte that changed
- * counts. Exit 1 where one takes more than DOCK_STACK, or where a call has another result than it should.
+ * counts. Exit 1 where one takes more than DOCK_STACK, dock_trace more than DOCK_TRACE_STACK, or where a call has another result than it should.
  */
 #include "dock.h"
 #include "image.h"
@@ -61,6 +61,29 @@ static void order(void)
     result = dock_in_order(dock.tables, DOCK_TABLES);
 }
 
+/* Two requests that change nothing, traced into an output that every trace fits into, and into none at all. */
+static const char text[] = "pad program op ticket topad toprogram first count rights fill\n"
+                           "0 0 5 1 0 0 0 0 0 0\n"
+                           "3 7 3 65535 0 0 0 0 0 0\n";
+static uint8_t output[DOCK_TRACE_ROOM];
+
+static void trace_into(size_t output_length)
+{
+    size_t length;
+    result = dock_trace(dock.tables, DOCK_TABLES, dock.store, DOCK_STORE, (const uint8_t *)text, sizeof text - 1, output, output_length,
+                        &length);
+}
+
+static void trace(void)
+{
+    trace_into(sizeof output);
+}
+
+static void trace_without_room(void)
+{
+    trace_into(0);
+}
+
 static void *run(void *what)
 {
     (*(void (**)(void))what)();
@@ -86,19 +109,24 @@ static size_t depth(void (*what)(void))
     return ROOM - untouched;
 }
 
-static size_t thread_alone, most;
+static size_t thread_alone, most, most_of_traces;
 
-/* Measures a call, which must have this result. */
-static void measure(const char *name, void (*what)(void), unsigned wanted)
+/* Measures a call, which must have this result, into the most of its sort. */
+static void measure_into(size_t *sort, const char *name, void (*what)(void), unsigned wanted)
 {
     size_t bytes = depth(what) - thread_alone;
     printf("%s: %zu bytes\n", name, bytes);
-    if (bytes > most)
-        most = bytes;
+    if (bytes > *sort)
+        *sort = bytes;
     if (result != wanted) {
         fprintf(stderr, "stack: %s: %s, not %s\n", name, dock_result_name((uint16_t)result), dock_result_name((uint16_t)wanted));
         exit(1);
     }
+}
+
+static void measure(const char *name, void (*what)(void), unsigned wanted)
+{
+    measure_into(&most, name, what, wanted);
 }
 
 static void ask(const char *name, struct dock_request asked, unsigned wanted)
@@ -124,6 +152,8 @@ static void measure_order(const char *name, unsigned wanted)
     measure("  dock_serve", serve, wanted);
     if (wanted != DOCK_ACCEPTED)
         measure("  dock_step", step, wanted);
+    measure_into(&most_of_traces, "  dock_trace, no room", trace_without_room, wanted == DOCK_ACCEPTED ? DOCK_TOO_SHORT : wanted);
+    measure_into(&most_of_traces, "  dock_trace", trace, wanted);
 }
 
 /* Chains of loans, made by requests. */
@@ -418,6 +448,6 @@ int main(void)
         fprintf(stderr, "stack: %u images in order and %u not: too few of one sort\n", in_order, not_in_order);
         return 1;
     }
-    printf("stack: at most %zu bytes; %u images not in order among those tried\n", most, not_in_order);
-    return most <= DOCK_STACK ? 0 : 1;
+    printf("stack: at most %zu bytes, dock_trace %zu; %u images not in order among those tried\n", most, most_of_traces, not_in_order);
+    return most <= DOCK_STACK && most_of_traces <= DOCK_TRACE_STACK ? 0 : 1;
 }

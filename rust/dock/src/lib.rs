@@ -23,8 +23,9 @@ pub const ANSWER: usize = 3;
 /// Bytes that every trace fits into, and bytes of the longest input that is not refused whole.
 pub const TRACE_ROOM: usize = 983_074;
 pub const TRACE_INPUT: usize = 65_536;
-/// Bytes of stack that a call may take: measured, not proved.
+/// Bytes of stack that a call may take, and that a trace may take: measured, not proved.
 pub const STACK: usize = 32_768;
+pub const TRACE_STACK: usize = 65_536;
 
 /// Where everything stands in the tables' image, in bytes; include/dock.h has the table.
 pub mod layout {

@@ -52,7 +52,7 @@ fn every_number_is_the_headers() {
     }
     let lengths = numbers![
         dock::TABLES => "TABLES", dock::STORE => "STORE", dock::SHEET => "SHEET", dock::REQUEST => "REQUEST",
-        dock::ANSWER => "ANSWER", dock::STACK => "STACK",
+        dock::ANSWER => "ANSWER", dock::STACK => "STACK", dock::TRACE_STACK => "TRACE_STACK",
         dock::VERSION => "VERSION", dock::TRACE_ROOM => "TRACE_ROOM", dock::TRACE_INPUT => "TRACE_INPUT",
         layout::PROGRAM_SIZE => "PROGRAM_SIZE", layout::TICKET_SIZE => "TICKET_SIZE", layout::LAST_AT => "LAST_AT",
         layout::ENTRIES_AT => "ENTRIES_AT", layout::ENTRY_SIZE => "ENTRY_SIZE",
