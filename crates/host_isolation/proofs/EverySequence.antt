@@ -21,7 +21,7 @@ use Rattle.isolation.proofs.TwoSequences.{head-both, tail-both}
 use Rattle.image.specs.Image.{encode}
 use Rattle.image.proofs.RoundTrip.{encode-is-image, image-whole}
 use Rattle.tables.specs.Names.{emptyTables}
-use Rattle.machine.specs.Numbers.{requestOf, answerWidth, answerNumbers}
+use Rattle.machine.specs.Numbers.{answerWidth, answerNumbers}
 use Rattle.lending.specs.Host.{stepRefusal, leftBy}
 use Rattle.host_isolation.specs.Calls.{Dock, Whole, Call, emptying, stepping, lent, result, left, Exchange, made, empties, exchanges, noneCrosses, ofGroup, Given, Agree, IsolatedForHosts}
 use Rattle.host_isolation.proofs.Traced.{seenBy, traced, asSeen, edge-seen, group-seen}
@@ -33,10 +33,6 @@ use Rattle.host_isolation.proofs.ForHosts.{step-0}
 unfoldable pub numbersOf : Request → List ℕ
 numbersOf r =
     r .pad ∷ r .program ∷ r .op ∷ r .ticket ∷ r .topad ∷ r .toprogram ∷ r .first ∷ r .count ∷ r .rights ∷ []
-
-numbers-back : (r : Request) → requestOf (numbersOf r) ≡ r
-unfolding numbersOf
-numbers-back r = refl
 
 abbrev pub callFor : Sent → Call
 callFor i = stepping (i .sheet) (numbersOf (i .request)) (replicate answerWidth 0)

@@ -16,7 +16,7 @@ use Rattle.machine.specs.Numbers.{requestOf}
 use Rattle.lending.specs.Batch.{Buffers, untouched}
 use Rattle.lending.specs.Host.{stepRefusal, stepOutcome, leftBy, stepImage}
 use Rattle.lending.proofs.Refusals.{step-served, step-refused, step-sheet}
-use Rattle.host_isolation.specs.Calls.{Dock, Call, emptying, stepping, lent, dockIn, left, Exchange, inStep, made}
+use Rattle.host_isolation.specs.Calls.{Dock, Call, stepping, lent, dockIn, left, Exchange, inStep, made}
 use Rattle.host_isolation.proofs.Traced.{seenBy, traced}
 use Rattle.host_isolation.proofs.Stands.{Stands, decoded}
 

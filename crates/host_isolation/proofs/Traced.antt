@@ -30,11 +30,6 @@ traced-append s (i ∷ is) js =
     let o = step (enter s i) (i .request) in
     ap (λ (l : List Exchange). seenBy i o ∷ l) (traced-append (o .state) is js)
 
-pub after-append : (s : State) (is js : List Sent) → after s (is ++ js) ≡ after (after s is) js
-unfolding after
-after-append s [] js = refl
-after-append s (i ∷ is) js = after-append (step (enter s i) (i .request) .state) is js
-
 -- ---- the sheet buffer of the state does not count
 module _ (s u : State) (tables : s .tables ≡ u .tables) (store : s .store ≡ u .store) where
   entered : (i : Sent) → enter s i ≡ enter u i
