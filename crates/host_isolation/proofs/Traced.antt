@@ -11,8 +11,8 @@ use Rattle.machine.specs.Sequence as machine
 use Rattle.machine.specs.Sequence.{Sent, enter, after, Group, fromGroup, crosses, groupExchanges}
 use Rattle.machine.specs.Isolation as claim
 use Rattle.machine.specs.Isolation.{ForEvery, no-left, no-right, both}
-use Rattle.isolation.proofs.TwoSequences.{head-both, tail-both}
 use Rattle.machine.specs.Numbers.{answerNumbers}
+use Rattle.isolation.proofs.TwoSequences.{head-both, tail-both}
 use Rattle.host_isolation.specs.Calls.{Exchange, noneCrosses, ofGroup, Given, Agree}
 
 abbrev pub seenBy : Sent → Outcome → Exchange

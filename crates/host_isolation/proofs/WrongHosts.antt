@@ -42,7 +42,8 @@ use Rattle.host_isolation.specs.Calls.{Dock, Call, emptying, serving, te
 use Rattle.host_isolation.proofs.Traced.{seenBy, traced}
 use Rattle.host_isolation.proofs.Stands.{Stands, stands-whole, emptied-stands}
 use Rattle.host_isolation.proofs.OneBatch.{filled, sentAt, batch-same}
-use Rattle.host_isolation.proofs.ForHosts.{isolated-for-hosts, serve-0}
+use Rattle.host_isolation.proofs.ForHosts.{isolated-for-hosts}
+use Rattle.host_isolation.proofs.StaysUsable.{serve-0}
 use Rattle.host_isolation.proofs.EverySequence.{numbersOf, callFor, one-made, one-result, one-left, anyDock, any-whole}
 
 -- ---- a kind of host: what it takes for its requests, on a dock that it has emptied
