@@ -8,6 +8,7 @@ use lib.Dec.{eqb}
 use lib.ListN.{getD, replicate, length-replicate}
 use borrow.Author.Tests.{eq-eqb}
 use Rattle.lists.specs.Lists.{some}
+use Rattle.tables.specs.Names.{emptyTables}
 use Rattle.machine.specs.declared.Request.{Request}
 use Rattle.machine.specs.State.{State}
 use Rattle.machine.specs.Step.{step}
@@ -16,27 +17,22 @@ use Rattle.machine.specs.Sequence as machine
 use Rattle.machine.specs.Sequence.{Sent, enter, groupExchanges}
 use Rattle.machine.specs.Isolation as claim
 use Rattle.machine.specs.Isolation.{ForEvery, no-left, no-right, both, IsolatedFromEmpty}
+use Rattle.machine.specs.Numbers.{answerWidth, answerNumbers}
 use Rattle.preservation.proofs.StepKeepsOrder.{step-keeps}
 use Rattle.isolation.proofs.TwoSequences.{head-both, tail-both}
 use Rattle.image.specs.Image.{encode}
 use Rattle.image.proofs.RoundTrip.{encode-is-image, image-whole}
-use Rattle.tables.specs.Names.{emptyTables}
-use Rattle.machine.specs.Numbers.{requestOf, answerWidth, answerNumbers}
 use Rattle.lending.specs.Host.{stepRefusal, leftBy}
 use Rattle.host_isolation.specs.Calls.{Dock, Whole, Call, emptying, stepping, lent, result, left, Exchange, made, empties, exchanges, noneCrosses, ofGroup, Given, Agree, IsolatedForHosts}
 use Rattle.host_isolation.proofs.Traced.{seenBy, traced, asSeen, edge-seen, group-seen}
 use Rattle.host_isolation.proofs.Stands.{Stands, emptied-stands}
 use Rattle.host_isolation.proofs.OneCall.{theSent, step-result, step-same, step-left}
-use Rattle.host_isolation.proofs.ForHosts.{step-0}
+use Rattle.host_isolation.proofs.StaysUsable.{step-0}
 
 -- ---- a request as a call
 unfoldable pub numbersOf : Request → List ℕ
 numbersOf r =
     r .pad ∷ r .program ∷ r .op ∷ r .ticket ∷ r .topad ∷ r .toprogram ∷ r .first ∷ r .count ∷ r .rights ∷ []
-
-numbers-back : (r : Request) → requestOf (numbersOf r) ≡ r
-unfolding numbersOf
-numbers-back r = refl
 
 abbrev pub callFor : Sent → Call
 callFor i = stepping (i .sheet) (numbersOf (i .request)) (replicate answerWidth 0)

@@ -2,7 +2,7 @@
 -- need not ask that a host's dock is whole.
 use Prim.Native.Nat.{ℕ}
 use mathlib.Core.Path.{_≡_, refl}
-use mathlib.Core.Bool.{Bool, true, false, not, _&&_}
+use mathlib.Core.Bool.{Bool, true, false, _&&_}
 use mathlib.Core.List.{List, [], _∷_}
 use lib.Dec.{eqb}
 use lib.ListN.{length}
@@ -17,7 +17,7 @@ use Rattle.image.specs.Image.{encode}
 use Rattle.lending.specs.Batch.{lengthsFit, batchRefusal, untouched, batch}
 use Rattle.lending.specs.Host.{emptyImage, stepRefusal, stepImage}
 use Rattle.lending.specs.Trace.{traceRefusal, traceLent}
-use Rattle.host_isolation.specs.Calls.{Dock, Whole, Call, emptying, stepping, serving, tracing, checking, testing, lent, lentTrace, left, Exchange, made, empties, exchanges}
+use Rattle.host_isolation.specs.Calls.{Dock, Whole, Call, emptying, stepping, serving, tracing, checking, testing, lent, lentTrace, left, made, empties, exchanges}
 
 abbrev pub isWhole : Dock → Bool
 isWhole d = eqb (length (d .image)) imageSize && eqb (length (d .store)) 16384

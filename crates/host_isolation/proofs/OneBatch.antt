@@ -4,13 +4,13 @@ use Prim.Native.Nat.{ℕ, zero, suc, _*_, _≤_, _<_}
 use native.Mathlib.Omega.{arith}
 use mathlib.Core.Path.{_≡_, refl, sym, ap, _∙_}
 use mathlib.Core.Bool.{true, false, not}
-use mathlib.Core.List.{List, [], _∷_, _++_, append-nil}
+use mathlib.Core.List.{List, [], _∷_, _++_}
 use lib.Dec.{eqb}
-use lib.ListN.{length, take, drop, replicate, length-append, length-replicate, length-drop}
+use lib.ListN.{length, take, drop, replicate, length-append, length-replicate}
 use lib.Seq.{take-at, length-take-le}
 use borrow.Author.Tests.{eqb-true, not-false}
 use Rattle.lists.specs.Parts.{tabulate, joined}
-use Rattle.lists.proofs.PartLaws.{Begins, joined-begins}
+use Rattle.lists.proofs.PartLaws.{tabulate-last, joined-at}
 use Rattle.lists.proofs.Tests.{Case, pass, fail, case}
 use Rattle.machine.specs.State.{State, Outcome, sheetAt}
 use Rattle.machine.specs.Numbers.{answerWidth, answerNumbers}
@@ -19,32 +19,19 @@ use Rattle.machine.specs.Step.{step}
 use Rattle.machine.specs.Sequence.{Sent, enter, after}
 use Rattle.machine.proofs.RefusalLaws.{when-past}
 use Rattle.preservation.specs.InOrder.{DockOk}
+use Rattle.preservation.proofs.StoreSheets.{sheet-long}
 use Rattle.preservation.proofs.StepKeepsOrder.{sequence-keeps}
+use Rattle.preservation.proofs.SheetKept.{step-keeps-sheet}
 use Rattle.image.specs.Image.{encode}
 use Rattle.lending.specs.Numbers.{requestAt, countOf}
 use Rattle.lending.specs.Sequence.{Start, met, outcomeAt}
 use Rattle.lending.specs.Batch.{Buffers, Left, buffersFit, tablesOk, batchRefusal, startOf, allServed, untouched, batch}
 use Rattle.lending.proofs.Lengths.{answer-long, Fit, fit}
-use Rattle.lending.proofs.IsSequence.{outcome-in-sequence}
+use Rattle.lending.proofs.IsSequence.{after-append, outcome-in-sequence}
 use Rattle.host_isolation.specs.Calls.{Dock, serving, lent, left, inBatch, made}
-use Rattle.host_isolation.proofs.Traced.{seenBy, traced, traced-append, after-append, traced-same, after-tables, after-store}
-use Rattle.host_isolation.proofs.SheetKept.{step-keeps-sheet}
+use Rattle.host_isolation.proofs.Traced.{seenBy, traced, traced-append, traced-same, after-tables, after-store}
 use Rattle.host_isolation.proofs.Stands.{Stands, decoded}
 use Rattle.host_isolation.proofs.OneCall.{Makes, nothing-made}
-
--- ---- lists
-tabulate-last : {A : Type 0} (n : ℕ) (f : ℕ → A) → tabulate (suc n) f ≡ tabulate n f ++ f n ∷ []
-unfolding tabulate
-tabulate-last zero f = refl
-tabulate-last (suc n) f = ap (λ (l : List _). f 0 ∷ l) (tabulate-last n (λ i. f (suc i)))
-
--- the part at its place
-part-at : (w n : ℕ) (part : ℕ → List ℕ) → ((j : ℕ) → j < n → length (part j) ≡ w) → (i : ℕ) → i < n
-    → take w (drop (w * i) (joined n part)) ≡ part i
-part-at w n part wide i h =
-    let it : Begins (part i) (drop (w * i) (joined n part ++ [])) = joined-begins w part n i wide h [] in
-    ap (λ (l : List ℕ). take w (drop (w * i) l)) (sym (append-nil (joined n part)))
-    ∙ ap (take w) (it .same) ∙ take-at (part i) (it .rest) w (wide i h)
 
 -- 64 bytes: what there is, then zeros
 unfoldable pub filled : List ℕ → List ℕ
@@ -58,10 +45,6 @@ filled-long l =
 filled-whole : (l : List ℕ) → length l ≡ 64 → filled l ≡ l
 unfolding filled
 filled-whole l e = take-at l (replicate 64 0) 64 e
-
-sheet-long : (sheets : List ℕ) (n i : ℕ) → length sheets ≡ 64 * n → i < n → length (sheetAt i sheets) ≡ 64
-unfolding sheetAt
-sheet-long sheets n i e h = length-take-le 64 (drop (64 * i) sheets) (omega (arith, length-drop (64 * i) sheets))
 
 -- ---- the batch
 module _ (d : Dock) (sheets requests answers : List ℕ) where
@@ -138,13 +121,13 @@ module _ (d : Dock) (sheets requests answers : List ℕ) where
     unfolding sheetAt allServed
     left-at i low =
         ap (λ (l : Left). take 64 (drop (64 * i) (l .sheets))) served
-        ∙ part-at 64 n (λ j. outcomeAt st j .state .sheet) sheet-wide i low
+        ∙ joined-at 64 (λ j. outcomeAt st j .state .sheet) n sheet-wide i low
 
     answer-at : (i : ℕ) → i < n → take answerWidth (drop (answerWidth * i) (batch b .answers)) ≡ answerNumbers (outcomeAt st i .answer)
     unfolding allServed
     answer-at i low =
         ap (λ (l : Left). take answerWidth (drop (answerWidth * i) (l .answers))) served
-        ∙ part-at answerWidth n (λ j. answerNumbers (outcomeAt st j .answer)) (λ j k. answer-long (outcomeAt st j .answer)) i low
+        ∙ joined-at answerWidth (λ j. answerNumbers (outcomeAt st j .answer)) n (λ j k. answer-long (outcomeAt st j .answer)) i low
 
     -- the i-th exchange
     exchange-at : (i : ℕ) → i < n → inBatch sheets requests (batch b) i ≡ seenBy (sentAt i) (outcomeAt st i)

@@ -11,12 +11,12 @@ use Rattle.machine.specs.State.{State, Outcome}
 use Rattle.machine.specs.Step.{step}
 use Rattle.machine.specs.Empty.{emptyDock}
 use Rattle.machine.specs.Sequence.{Sent, enter, after}
-use Rattle.preservation.proofs.StepKeepsOrder.{step-keeps, result-at-most-12}
 use Rattle.machine.specs.Numbers.{requestOf}
+use Rattle.preservation.proofs.StepKeepsOrder.{step-keeps, result-at-most-12}
 use Rattle.lending.specs.Batch.{Buffers, untouched}
 use Rattle.lending.specs.Host.{stepRefusal, stepOutcome, leftBy, stepImage}
 use Rattle.lending.proofs.Refusals.{step-served, step-refused, step-sheet}
-use Rattle.host_isolation.specs.Calls.{Dock, Call, emptying, stepping, lent, dockIn, left, Exchange, inStep, made}
+use Rattle.host_isolation.specs.Calls.{Dock, Call, stepping, lent, dockIn, left, Exchange, inStep, made}
 use Rattle.host_isolation.proofs.Traced.{seenBy, traced}
 use Rattle.host_isolation.proofs.Stands.{Stands, decoded}
 

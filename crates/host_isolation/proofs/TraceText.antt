@@ -10,9 +10,9 @@ use Rattle.text.specs.Bytes.{lineEnd}
 use Rattle.text.specs.Reading.{lines}
 use Rattle.text.specs.Names.{behindNames}
 use Rattle.trace_texts.specs.Line.{inForm, answerLine, firstByte, otherLine}
-use Rattle.trace_texts.specs.Trace.{outputNames, servedBy, answerTo, leftByLine, answers, inputOk, traceFrom}
+use Rattle.trace_texts.specs.Trace.{outputNames, servedBy, answerTo, answers, traceFrom}
 use Rattle.trace_texts.proofs.AnswersLaws.{answer-served, answer-other, left-served, left-other}
-use Rattle.lending.specs.Trace.{dockOf, traceRefusal}
+use Rattle.lending.specs.Trace.{dockOf}
 use Rattle.host_isolation.specs.Calls.{Exchange, inLine, inLines, made}
 use Rattle.host_isolation.specs.Texts.{byteOf, lineOf, linesOf, ToldByExchanges}
 

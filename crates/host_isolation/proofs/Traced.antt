@@ -11,8 +11,8 @@ use Rattle.machine.specs.Sequence as machine
 use Rattle.machine.specs.Sequence.{Sent, enter, after, Group, fromGroup, crosses, groupExchanges}
 use Rattle.machine.specs.Isolation as claim
 use Rattle.machine.specs.Isolation.{ForEvery, no-left, no-right, both}
-use Rattle.isolation.proofs.TwoSequences.{head-both, tail-both}
 use Rattle.machine.specs.Numbers.{answerNumbers}
+use Rattle.isolation.proofs.TwoSequences.{head-both, tail-both}
 use Rattle.host_isolation.specs.Calls.{Exchange, noneCrosses, ofGroup, Given, Agree}
 
 abbrev pub seenBy : Sent → Outcome → Exchange
@@ -29,11 +29,6 @@ traced-append s [] js = refl
 traced-append s (i ∷ is) js =
     let o = step (enter s i) (i .request) in
     ap (λ (l : List Exchange). seenBy i o ∷ l) (traced-append (o .state) is js)
-
-pub after-append : (s : State) (is js : List Sent) → after s (is ++ js) ≡ after (after s is) js
-unfolding after
-after-append s [] js = refl
-after-append s (i ∷ is) js = after-append (step (enter s i) (i .request) .state) is js
 
 -- ---- the sheet buffer of the state does not count
 module _ (s u : State) (tables : s .tables ≡ u .tables) (store : s .store ≡ u .store) where

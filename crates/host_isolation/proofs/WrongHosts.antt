@@ -3,10 +3,10 @@
 -- one that lends two copies of its dock in turn: two takes give 1 and 1, but 1 and 2 with an order test between them;
 -- one that puts back the bytes that a refused request met: on 12 a ticket goes, and so the same read again is refused with 12 where it put
 -- them back, with 4 where both reads were one batch.
-use Prim.Native.Nat.{ℕ, _*_, _/_}
+use Prim.Native.Nat.{ℕ}
 use native.Mathlib.Omega.{arith}
 use mathlib.Core.Path.{_≡_, refl, sym, ap, _∙_}
-use mathlib.Core.Bool.{true, false, not, _&&_, xor, cond}
+use mathlib.Core.Bool.{true, xor, cond}
 use mathlib.Core.List.{List, [], _∷_, _++_}
 use lib.Dec.{eqb}
 use lib.ListN.{getD, replicate}
@@ -33,16 +33,17 @@ use Rattle.machine.specs.Dock.{dockRefusal}
 use Rattle.machine.specs.Access.{accessRefusal, afterRead, afterWrite}
 use Rattle.machine.specs.Step.{ownRefusal, requestRefusal, lengthsOk, refusal, afterOwn, dropHead, outcome, step}
 use Rattle.machine.specs.Empty.{emptyDock}
-use Rattle.machine.specs.Numbers.{answerWidth, answerNumbers}
+use Rattle.machine.specs.Numbers.{answerNumbers}
 use Rattle.machine.specs.Sequence.{Sent, enter, Group, fromGroup, crosses}
 use Rattle.machine.specs.Isolation.{ForEvery, no-left, both}
 use Rattle.machine.proofs.CaseLines.{request}
 use Rattle.isolation.proofs.TwoSequences.{head-both, tail-both}
-use Rattle.host_isolation.specs.Calls.{Dock, Call, emptying, serving, testing, lent, result, left, Exchange, made, empties, exchanges, noneCrosses, ofGroup, Given, Agree, Isolated}
+use Rattle.host_isolation.specs.Calls.{Dock, Call, emptying, serving, testing, result, left, Exchange, made, empties, exchanges, noneCrosses, ofGroup, Given, Agree, Isolated}
 use Rattle.host_isolation.proofs.Traced.{seenBy, traced}
 use Rattle.host_isolation.proofs.Stands.{Stands, stands-whole, emptied-stands}
 use Rattle.host_isolation.proofs.OneBatch.{filled, sentAt, batch-same}
-use Rattle.host_isolation.proofs.ForHosts.{isolated-for-hosts, serve-0}
+use Rattle.host_isolation.proofs.ForHosts.{isolated-for-hosts}
+use Rattle.host_isolation.proofs.StaysUsable.{serve-0}
 use Rattle.host_isolation.proofs.EverySequence.{numbersOf, callFor, one-made, one-result, one-left, anyDock, any-whole}
 
 -- ---- a kind of host: what it takes for its requests, on a dock that it has emptied

@@ -108,7 +108,7 @@ inLines s (line ∷ later) =
     let rest = inLines (leftByLine s line) later in
     cond (inForm line) (inLine line (servedBy s line) ∷ rest) rest
 
--- a call that is refused for its buffers (13, 14, 17) makes none, nor does a trace whose names are wrong
+-- a call that is refused for its buffers (13, 14, 17) makes none, nor does a trace whose input is too long or has wrong names
 unfoldable pub made : Dock → Call → List Exchange
 made d emptying = []
 made d (stepping sheet request answer) =

@@ -11,10 +11,11 @@ use Rattle.machine.specs.Sequence.{Sent, enter, after}
 use Rattle.lending.specs.Numbers.{requestAt}
 use Rattle.lending.specs.Sequence.{Start, met, outcomeAt}
 
-after-last : (s : State) (is : List Sent) (i : Sent) → after s (is ++ i ∷ []) ≡ step (enter (after s is) i) (i .request) .state
+-- one sequence after another
+pub after-append : (s : State) (is js : List Sent) → after s (is ++ js) ≡ after (after s is) js
 unfolding after
-after-last s [] i = refl
-after-last s (j ∷ is) i = after-last (step (enter s j) (j .request) .state) is i
+after-append s [] js = refl
+after-append s (i ∷ is) js = after-append (step (enter s i) (i .request) .state) is js
 
 module _ (b : Start) (n : ℕ) (sent : ℕ → Sent) (requests : (i : ℕ) → i < n → sent i .request ≡ requestAt i (b .requests))
     (sheets : (i : ℕ) → i < n → sent i .sheet ≡ sheetAt i (b .sheets)) where
@@ -33,7 +34,7 @@ module _ (b : Start) (n : ℕ) (sent : ℕ → Sent) (requests : (i : ℕ) → i
   meets (suc i) h =
       let low : i < n = omega arith in
       let left : step (met b i) (requestAt i (b .requests)) .state ≡ after (met b 0) (firstSent i ++ sent i ∷ []) =
-      (λ j. step (meets i low j) (sym (requests i low) j) .state) ∙ sym (after-last (met b 0) (firstSent i) (sent i)) in
+      (λ j. step (meets i low j) (sym (requests i low) j) .state) ∙ sym (after-append (met b 0) (firstSent i) (sent i ∷ [])) in
       same-sheet (step (met b i) (requestAt i (b .requests)) .state) (suc i) h ∙ λ j. enter (left j) (sent (suc i))
 
   pub outcome-in-sequence : (i : ℕ) → i < n → outcomeAt b i ≡ step (enter (after (met b 0) (firstSent i)) (sent i)) (sent i .request)

@@ -5,7 +5,7 @@ use native.Mathlib.Nat.{mul-zero, mul-suc}
 use native.Mathlib.Omega.{arith}
 use mathlib.Core.Path.{_≡_, refl, sym, ap, subst, _∙_}
 use mathlib.Core.Bool.{Bool, true, false}
-use mathlib.Core.List.{List, [], _++_, append-assoc, append-nil}
+use mathlib.Core.List.{List, [], _∷_, _++_, append-assoc, append-nil}
 use lib.Dec.{eqb}
 use lib.ListN.{length, getD, take, drop, length-append, length-drop}
 use lib.Seq.{take-add, take-at, drop-at, drop-drop, drop-length, ext-getD}
@@ -30,6 +30,11 @@ module _ {A : Type 0} where
   getD-tabulate zero element i d h = absurd (omega arith)
   getD-tabulate (suc n) element zero d h = refl
   getD-tabulate (suc n) element (suc i) d h = getD-tabulate n (λ i. element (suc i)) i d (omega arith)
+
+  pub tabulate-last : (n : ℕ) (element : ℕ → A) → tabulate (suc n) element ≡ tabulate n element ++ element n ∷ []
+  unfolding tabulate
+  tabulate-last zero element = refl
+  tabulate-last (suc n) element = ap (λ (l : List A). element 0 ∷ l) (tabulate-last n (λ i. element (suc i)))
 
   -- every place holds what is wanted there
   pub tabulated : (d : A) (n m : ℕ) (element : ℕ → A) (l : List A) → n ≤ m → Laid d n element m l → l ≡ tabulate n element
@@ -88,6 +93,12 @@ module _ {A : Type 0} (w : ℕ) where
         go (fail e) earlier =
             let b = earlier (omega (arith, eqb-false i n e)) in
             record { rest = b .rest; same = ap (drop (w * i)) (append-assoc (joined n part) (part n) after) ∙ b .same }
+
+    -- the part at its place
+    pub joined-at : (n : ℕ) → ((j : ℕ) → j < n → length (part j) ≡ w) → (i : ℕ) → i < n → take w (drop (w * i) (joined n part)) ≡ part i
+    joined-at n wide i h =
+        let it : Begins (part i) (drop (w * i) (joined n part ++ [])) = joined-begins n i wide h [] in
+        ap (λ (l : List A). take w (drop (w * i) l)) (sym (append-nil (joined n part))) ∙ ap (take w) (it .same) ∙ take-at (part i) (it .rest) w (wide i h)
 
     -- parts that are cut from a list one behind the other
     pub joined-cut : (n : ℕ) (l : List A) → ((i : ℕ) → i < n → part i ≡ take w (drop (w * i) l)) → joined n part ≡ take (w * n) l

@@ -23,4 +23,5 @@ pub mod TestMeansOrder
 pub mod OrderPassesTest
 pub mod EmptyDockInOrder
 pub mod StepKeepsOrder
+pub mod SheetKept
 pub mod WhyNoFarChild

@@ -7,9 +7,9 @@ use mathlib.Core.Bool.{Bool}
 use lib.Dec.{eqb}
 use borrow.Author.Tests.{eqb-true}
 use Rattle.lists.proofs.Tests.{Case, pass, fail, case}
-use Rattle.tables.specs.declared.Tables.{Tables}
+use Rattle.tables.specs.declared.{Name.Name, Tables.Tables}
 use Rattle.machine.specs.declared.Request.{Request}
-use Rattle.machine.specs.State.{State, refused}
+use Rattle.machine.specs.State.{State, refused, asked}
 use Rattle.machine.specs.Refusal.{_when_else_}
 use Rattle.machine.specs.Operation.{Operation, taking, passing, recalling, givingBack, reading, writing, operationOf}
 use Rattle.machine.specs.Dock.{dockRefusal}
@@ -17,7 +17,7 @@ use Rattle.machine.specs.Take.{takeRefusal}
 use Rattle.machine.specs.Pass.{passRefusal}
 use Rattle.machine.specs.Recall.{recallRefusal}
 use Rattle.machine.specs.GiveBack.{giveBackRefusal}
-use Rattle.machine.specs.Access.{accessRefusal}
+use Rattle.machine.specs.Access.{sheetOf, accessRefusal}
 use Rattle.machine.specs.Step.{ownRefusal, requestRefusal, outcome, serve}
 use Rattle.machine.proofs.RefusalLaws.{when-at-most}
 use Rattle.machine.proofs.Untouched.{own-result}
@@ -35,11 +35,17 @@ serve-result s r = go (case (eqb (requestRefusal (s .tables) r) 0)) (case (eqb (
 low : (n : ℕ) (b : Bool) (later : ℕ) → n ≤ 12 → later ≤ 12 → (n when b else later) ≤ 12
 low = when-at-most 12
 
+pub dock-refusal-low : (t : Tables) (n : Name) (sheet right : ℕ) → dockRefusal t n sheet right ≤ 12
+unfolding dockRefusal
+dock-refusal-low t n sheet right =
+    low 3 _ _ (omega arith) (low 12 _ _ (omega arith) (low 6 _ _ (omega arith) (low 7 _ 0 (omega arith) (omega arith))))
+
 access-low : (right : ℕ) (t : Tables) (r : Request) → accessRefusal right t r ≤ 12
-unfolding accessRefusal dockRefusal
+unfolding accessRefusal
 access-low right t r =
+    let k = asked t r in
     low 4 _ _ (omega arith) (low 5 _ _ (omega arith) (low 6 _ _ (omega arith) (low 7 _ _ (omega arith)
-    (low 3 _ _ (omega arith) (low 12 _ _ (omega arith) (low 6 _ _ (omega arith) (low 7 _ 0 (omega arith) (omega arith))))))))
+    (dock-refusal-low t (k .dock) (sheetOf t r) right))))
 
 own-refusal-low : (o : Operation) (t : Tables) (r : Request) → ownRefusal o t r ≤ 12
 unfolding ownRefusal takeRefusal passRefusal recallRefusal giveBackRefusal

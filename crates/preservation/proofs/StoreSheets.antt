@@ -25,11 +25,15 @@ getD-sets-at (v ∷ vs) l i (suc a) h b =
     ap (λ (k : ℕ). getD (sets (set l i v) (suc i) vs) k 0) (omega arith)
     ∙ getD-sets-at vs (set l i v) (suc i) a (le-of-suc-le-suc h) (subst (λ (k : ℕ). suc i + length vs ≤ k) (sym (length-set l i v)) (omega arith))
 
-pub length-sheet : (b : List ℕ) (i : ℕ) → length b ≡ 16384 → i < 256 → length (sheetAt i b) ≡ 64
+-- one of n sheets
+pub sheet-long : (b : List ℕ) (n i : ℕ) → length b ≡ 64 * n → i < n → length (sheetAt i b) ≡ 64
 unfolding sheetAt
-length-sheet b i e h =
+sheet-long b n i e h =
     let d : length (drop (64 * i) b) ≡ length b - 64 * i = length-drop (64 * i) b in
     length-take 64 (drop (64 * i) b) ∙ omega arith
+
+pub length-sheet : (b : List ℕ) (i : ℕ) → length b ≡ 16384 → i < 256 → length (sheetAt i b) ≡ 64
+length-sheet b i e h = sheet-long b 256 i e h
 
 getD-sheet : (b : List ℕ) (i j : ℕ) → j < 64 → getD (sheetAt i b) j 0 ≡ getD b (64 * i + j) 0
 unfolding sheetAt
@@ -56,15 +60,9 @@ module _ (f c : ℕ) (vs b : List ℕ) (size : length b ≡ 16384) (len : length
       side k (inl x) = inl (omega arith)
       side k (inr x) = inr (omega arith)
 
-  written-length : (a : ℕ) → a < c → length (sheetAt a vs) ≡ 64
-  unfolding sheetAt
-  written-length a h =
-      let d : length (drop (64 * a) vs) ≡ length vs - 64 * a = length-drop (64 * a) vs in
-      length-take 64 (drop (64 * a) vs) ∙ omega arith
-
   pub sheet-put : (a : ℕ) → a < c → sheetAt (f + a) (putSheets f vs b) ≡ sheetAt a vs
   sheet-put a h =
-      ext-getD 0 (sheetAt (f + a) (putSheets f vs b)) (sheetAt a vs) (length-sheet (putSheets f vs b) (f + a) length-put (omega arith) ∙ sym (written-length a h))
+      ext-getD 0 (sheetAt (f + a) (putSheets f vs b)) (sheetAt a vs) (length-sheet (putSheets f vs b) (f + a) length-put (omega arith) ∙ sym (sheet-long vs c a len h))
       (λ j k.
       let k′ : j < 64 = subst (λ (m : ℕ). j < m) (length-sheet (putSheets f vs b) (f + a) length-put (omega arith)) k in
       getD-sheet (putSheets f vs b) (f + a) j k′ ∙ ap (λ (l : List ℕ). getD l (64 * (f + a) + j) 0) as-sets
