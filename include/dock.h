@@ -13,8 +13,9 @@
  *   - pad and program of a request are those of its true sender. The library cannot know who asks.
  *
  * What the library guarantees: it keeps nothing between calls and allocates nothing. Tables, store
- * and sheets belong to the host. A call needs at most DOCK_STACK bytes of stack. Any bytes may be
- * handed in as tables: those that are none, or are not in order, are refused.
+ * and sheets belong to the host. A call needs at most DOCK_STACK bytes of stack, dock_trace
+ * DOCK_TRACE_STACK. Any bytes may be handed in as tables: those that are none, or are not in order,
+ * are refused.
  *
  * Any thread of the host may call. Programs on the pads should not: whoever can write to the tables
  * can make tickets. Between two requests the tables and the store stay as the last call left them;
@@ -38,6 +39,7 @@ extern "C" {
 #define DOCK_ANSWER 3     /* numbers of an answer */
 #define DOCK_TRACE_INPUT 65536 /* bytes of the longest input of a trace */
 #define DOCK_TRACE_ROOM 983074 /* bytes that every trace fits into */
+#define DOCK_TRACE_STACK 65536 /* bytes of stack that dock_trace may take, measured as DOCK_STACK is */
 
 /* The version that this header belongs to: major * 10000 + minor * 100 + patch. */
 #define DOCK_VERSION 10000

@@ -1,6 +1,6 @@
 /*
  * How much stack the library's functions take. Each is called on a stack that was filled with one byte; the deepest byte that changed
- * counts. Exit 1 where one takes more than DOCK_STACK.
+ * counts. Exit 1 where one takes more than DOCK_STACK, or dock_trace more than DOCK_TRACE_STACK.
  */
 #include "dock.h"
 #include <pthread.h>
@@ -50,6 +50,17 @@ static void order(void)
     (void)dock_in_order(dock.tables, DOCK_TABLES);
 }
 
+/* The requests that were asked one by one, as the input of a trace. */
+static char input[DOCK_TRACE_INPUT] = "pad program op ticket topad toprogram first count rights fill\n";
+static uint8_t output[DOCK_TRACE_ROOM];
+static size_t room, written;
+static uint16_t traced;
+
+static void trace(void)
+{
+    traced = dock_trace(dock.tables, DOCK_TABLES, dock.store, DOCK_STORE, (const uint8_t *)input, strlen(input), output, room, &written);
+}
+
 static void *run(void *what)
 {
     (*(void (**)(void))what)();
@@ -88,7 +99,10 @@ static void measure(const char *name, void (*what)(void))
 /* One request, which must have this result. */
 static void ask(const char *name, struct dock_request asked, unsigned result)
 {
+    size_t end = strlen(input);
     request = asked;
+    snprintf(input + end, sizeof input - end, "%u %u %u %u %u %u %u %u %u 0\n", request.pad, request.program, request.op, request.ticket,
+             request.topad, request.toprogram, request.first, request.count, request.rights);
     measure(name, step);
     if (answer.result != result) {
         fprintf(stderr, "stack: %s: result %d, not %u\n", name, answer.result, result);
@@ -133,5 +147,18 @@ int main(void)
     ask("write of a chain without an entry", request, DOCK_NO_ENTRY);
     ask("give back", (struct dock_request){.op = DOCK_GIVE_BACK, .ticket = 1}, DOCK_ACCEPTED);
     printf("stack: at most %zu bytes\n", most);
-    return most <= DOCK_STACK ? 0 : 1;
+    if (most > DOCK_STACK)
+        return 1;
+
+    /* All of them as one trace, once written straight away and once measured first. */
+    most = 0;
+    for (room = DOCK_TRACE_ROOM; room > 0; room = room == DOCK_TRACE_ROOM ? written : 0) {
+        dock_start(&dock);
+        measure("dock_trace", trace);
+        if (traced != DOCK_ACCEPTED || written == 0 || written >= DOCK_TRACE_ROOM) {
+            fprintf(stderr, "stack: dock_trace: result %d, %zu bytes\n", traced, written);
+            return 1;
+        }
+    }
+    return most <= DOCK_TRACE_STACK ? 0 : 1;
 }
