@@ -854,6 +854,60 @@ static void serving_many(void)
     free(sheets_all);
 }
 
+/* The version, and the trace. */
+
+#define NAMES "pad program op ticket topad toprogram first count rights fill\n"
+#define ANSWERED "line result ticket recipient byte\n"
+
+/* Traces an input into an output of so many bytes, with buffers of these lengths; what is left is compared. */
+static void traces(int line, const char *input, size_t input_length, size_t room, size_t tables_length, size_t store_length,
+                   unsigned result, const char *expected)
+{
+    uint8_t *in = copy(input, input_length), *output = block(room, 7);
+    uint8_t *tables_before = copy(tables, DOCK_TABLES), *store_before = copy(store, DOCK_STORE);
+    size_t length = 1;
+    equal(line, dock_trace(tables, tables_length, store, store_length, in, input_length, output, room, &length), result,
+          "dock_trace");
+    equal(line, length, strlen(expected), "the length of the trace");
+    holds(line, memcmp(output, expected, length) == 0, "the trace");
+    holds(line, all(output + length, room - length, 7), "the output behind it");
+    if (result) {
+        holds(line, memcmp(tables, tables_before, DOCK_TABLES) == 0, "the tables after a refusal");
+        holds(line, memcmp(store, store_before, DOCK_STORE) == 0, "the store after a refusal");
+    }
+    free(in);
+    free(output);
+    free(tables_before);
+    free(store_before);
+}
+
+static void tracing(void)
+{
+    static char longest[DOCK_TRACE_INPUT + 1];
+    const char *asked = NAMES "0 0 1 0 0 0 0 1 7 0\n0 0 6 1 0 0 0 0 0 65\n0 0 5 1 0 0 0 0 0 0\n";
+    const char *taken = NAMES "0 0 1 0 0 0 0 1 7 0\n";
+    const char *told = ANSWERED "1 0 1 0 0\n2 0 0 0 0\n3 0 0 0 65\n";
+
+    begin("version and trace");
+    equal(__LINE__, dock_version(), DOCK_VERSION, "dock_version");
+    start();
+    traces(__LINE__, asked, strlen(asked), strlen(told), DOCK_TABLES - 1, DOCK_STORE, DOCK_LENGTH, "");
+    traces(__LINE__, asked, strlen(asked), strlen(told), DOCK_TABLES, DOCK_STORE - 1, DOCK_LENGTH, "");
+    traces(__LINE__, asked, strlen(asked), strlen(told) - 1, DOCK_TABLES, DOCK_STORE, 17, "");
+    traces(__LINE__, asked, strlen(asked), strlen(told), DOCK_TABLES, DOCK_STORE, DOCK_ACCEPTED, told);
+    /* The dock is as the last call left it. */
+    equal(__LINE__, store[0], 65, "what was written");
+    traces(__LINE__, taken, strlen(taken), DOCK_TRACE_ROOM, DOCK_TABLES, DOCK_STORE, DOCK_ACCEPTED, ANSWERED "1 0 2 0 0\n");
+    /* The longest input, and one that is longer. */
+    memset(longest, '0', sizeof longest);
+    memcpy(longest, NAMES, strlen(NAMES));
+    traces(__LINE__, longest, DOCK_TRACE_INPUT, 100, DOCK_TABLES, DOCK_STORE, DOCK_ACCEPTED, ANSWERED "1 15 0 0 0\n");
+    traces(__LINE__, longest, DOCK_TRACE_INPUT + 1, 100, DOCK_TABLES, DOCK_STORE, DOCK_ACCEPTED, ANSWERED "0 15 0 0 0\n");
+    tables[0] = 5;
+    traces(__LINE__, asked, strlen(asked), DOCK_TRACE_ROOM, DOCK_TABLES, DOCK_STORE, DOCK_NOT_IN_ORDER, "");
+    end();
+}
+
 int main(void)
 {
     tables = block(DOCK_TABLES, 1);
@@ -872,6 +926,7 @@ int main(void)
     image_written();
     serving_many();
     names();
+    tracing();
     printf("constants: %u checks passed\n", passed);
     free(tables);
     free(store);
