@@ -342,17 +342,28 @@ static void make_entries(unsigned links, int ring, int backwards)
     }
 }
 
-/* In the place that a chain of 255 leaves, a recall of the loan that follows the last program's first grant. */
-static void put_recall(void)
+/* In a program's last place, which a chain has left, a recall of this target, under its first grant. */
+static void put_recall(struct who who, struct name target)
 {
-    struct who last = {DOCK_PADS - 1, DOCK_PROGRAMS - 1};
-    size_t at = place_at(last, DOCK_PLACES - 1);
+    size_t at = place_at(who, DOCK_PLACES - 1);
 
     put(at + DOCK_TICKET_KIND_AT, DOCK_KIND_RECALL);
     put(at + DOCK_TICKET_NUMBER_AT, DOCK_PLACES);
     put(at + DOCK_TICKET_OWN_AT, 1);
-    put_name(at + DOCK_TICKET_OTHER_AT, link_name(DOCK_PADS * DOCK_PROGRAMS, 1));
-    put(last_at(last), DOCK_PLACES);
+    put_name(at + DOCK_TICKET_OTHER_AT, target);
+    put(last_at(who), DOCK_PLACES);
+}
+
+/*
+ * A child on pad 1 that a recall of pad 0 names: in order, but tables that a request can put out of order, so that a trace tests them
+ * before each line.
+ */
+static void put_far_child(void)
+{
+    const struct name parent = {1, 0, 1}, child = {1, 1, DOCK_PLACES};
+
+    put_grant(child, DOCK_KIND_CHILD, parent, parent);
+    put_recall(root, child);
 }
 
 static void use_made_images(void)
@@ -373,9 +384,12 @@ static void use_made_images(void)
         measure_order("a chain of 256 entries", DOCK_ACCEPTED);
         ask("give back of a chain of 256 entries", by(root, DOCK_GIVE_BACK, root_ticket), DOCK_ACCEPTED);
         make_entries(DOCK_ENTRIES - 1, 0, backwards);
-        put_recall();
+        put_recall(last, link_name(DOCK_PADS * DOCK_PROGRAMS, 1));
         measure_order("a chain of 255 entries and a recall", DOCK_ACCEPTED);
         ask("recall in a chain of 255 entries", by(last, DOCK_RECALL, DOCK_PLACES), DOCK_ACCEPTED);
+        make_entries(DOCK_ENTRIES - DOCK_PADS * DOCK_PROGRAMS, 0, backwards);
+        put_far_child();
+        measure_order("a chain of 224 entries and a recall of another pad's child", DOCK_ACCEPTED);
     }
 }
 
