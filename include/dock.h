@@ -11,8 +11,8 @@
  *   - pointers to uint16_t are aligned;
  *   - the buffers of a call do not overlap;
  *   - one call at a time on the same buffers. Calls on other buffers may run beside it;
- *   - DOCK_STACK bytes of stack are left. That number is measured, not proved, and the library does
- *     not notice a stack that is too small;
+ *   - DOCK_STACK bytes of stack are left, DOCK_TRACE_STACK for dock_trace. These numbers are measured,
+ *     not proved, and the library does not notice a stack that is too small;
  *   - a dock is lent whole, tables and store together, and left alone between calls: a host that
  *     changes them begins a new sequence of requests;
  *   - pad and program of a request are those of its true sender. The library cannot know who asks.
@@ -84,9 +84,9 @@ enum dock_right {
 };
 
 /*
- * Results: accepted, or the first refusal that holds (document 01 gives the order). A refusal leaves
- * tables, store and sheet buffer untouched. DOCK_NO_ENTRY alone drops tickets: the taken or received
- * grant that heads the ticket's chain, and all under it on that pad.
+ * Results: accepted, or the first refusal that holds (document 01 gives the order). A refused request
+ * leaves tables, store and sheet buffer untouched. DOCK_NO_ENTRY alone drops tickets: the taken or
+ * received grant that heads the ticket's chain, and all under it on that pad.
  */
 enum dock_result {
     DOCK_ACCEPTED = 0,      /* done; changed is only what the operation names */

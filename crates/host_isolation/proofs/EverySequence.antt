@@ -23,7 +23,7 @@ use Rattle.isolation.proofs.TwoSequences.{head-both, tail-both}
 use Rattle.image.specs.Image.{encode}
 use Rattle.image.proofs.RoundTrip.{encode-is-image, image-whole}
 use Rattle.lending.specs.Host.{stepRefusal, leftBy}
-use Rattle.host_isolation.specs.Calls.{Dock, Whole, Call, emptying, stepping, lent, result, left, Exchange, made, empties, exchanges, noneCrosses, ofGroup, Given, Agree, IsolatedForHosts}
+use Rattle.host_isolation.specs.Calls.{Dock, WholeDock, Call, emptying, stepping, lent, result, left, Exchange, made, empties, exchanges, noneCrosses, ofGroup, Given, Agree, IsolatedForHosts}
 use Rattle.host_isolation.proofs.Traced.{seenBy, traced, asSeen, edge-seen, group-seen}
 use Rattle.host_isolation.proofs.Stands.{Stands, emptied-stands}
 use Rattle.host_isolation.proofs.OneCall.{theSent, step-result, step-same, step-left}
@@ -77,7 +77,7 @@ all-made (i ∷ is) d s h =
     rw (none-empties is)
     (λ j. one-made d s h i j ++ all-made is (left d (callFor i)) (step (enter s i) (i .request) .state) (one-left d s h i) j)
 
-pub sequence-made : (d : Dock) → Whole d → (is : List Sent) → exchanges d (emptying ∷ callsFor is) ≡ traced emptyDock is
+pub sequence-made : (d : Dock) → WholeDock d → (is : List Sent) → exchanges d (emptying ∷ callsFor is) ≡ traced emptyDock is
 unfolding exchanges made
 sequence-made d w is = rw (none-empties is) (all-made is (left d emptying) emptyDock (emptied-stands d w))
 
@@ -109,7 +109,7 @@ agree-called (x ∷ xs) (y ∷ ys) h = both (agree-one x y (head-both h)) (agree
 pub anyDock : Dock
 anyDock = record { image = encode emptyTables; store = replicate 16384 0 }
 
-pub any-whole : Whole anyDock
+pub any-whole : WholeDock anyDock
 unfolding anyDock
 any-whole = record { image = image-whole (encode emptyTables) (encode-is-image emptyTables); store = length-replicate {A = ℕ} 16384 0 }
 

@@ -11,7 +11,7 @@ use Rattle.machine.specs.Step.{step}
 use Rattle.machine.specs.Sequence.{Sent, after, Group, groupExchanges}
 use Rattle.machine.specs.Isolation.{no-left, no-right}
 use Rattle.isolation.proofs.Isolation.{isolation}
-use Rattle.host_isolation.specs.Calls.{Dock, Whole, Call, emptying, stepping, serving, tracing, checking, testing, left, Exchange, made, empties, exchanges, noneCrosses, ofGroup, Isolated, IsolatedForHosts}
+use Rattle.host_isolation.specs.Calls.{Dock, WholeDock, Call, emptying, stepping, serving, tracing, checking, testing, left, Exchange, made, empties, exchanges, noneCrosses, ofGroup, Isolated, IsolatedForHosts}
 use Rattle.host_isolation.proofs.Traced.{traced, traced-append, asSeen, edge-seen, group-seen, given-seen, agree-seen}
 use Rattle.host_isolation.proofs.Stands.{Stands, stands-whole, emptied-stands}
 use Rattle.host_isolation.proofs.OneCall.{startFor, Makes, nothing-made, stepping-makes}
@@ -63,7 +63,7 @@ sequence-of (c ∷ cs) d s h =
     }
 
 -- emptied, whatever it held
-since-emptied : (d : Dock) → Whole d → (cs : List Call) → Sequence (exchanges d (emptying ∷ cs)) emptyDock
+since-emptied : (d : Dock) → WholeDock d → (cs : List Call) → Sequence (exchanges d (emptying ∷ cs)) emptyDock
 unfolding exchanges made
 since-emptied d w cs = go (case (some empties cs)) (sequence-of cs (left d emptying) emptyDock (emptied-stands d w))
   where

@@ -17,12 +17,12 @@ use Rattle.image.specs.Image.{encode}
 use Rattle.lending.specs.Batch.{lengthsFit, batchRefusal, untouched, batch}
 use Rattle.lending.specs.Host.{emptyImage, stepRefusal, stepImage}
 use Rattle.lending.specs.Trace.{traceRefusal, traceLent}
-use Rattle.host_isolation.specs.Calls.{Dock, Whole, Call, emptying, stepping, serving, tracing, checking, testing, lent, lentTrace, left, made, empties, exchanges}
+use Rattle.host_isolation.specs.Calls.{Dock, WholeDock, Call, emptying, stepping, serving, tracing, checking, testing, lent, lentTrace, left, made, empties, exchanges}
 
 abbrev pub isWhole : Dock → Bool
 isWhole d = eqb (length (d .image)) imageSize && eqb (length (d .store)) 16384
 
-pub whole-dock : (d : Dock) → isWhole d ≡ true → Whole d
+pub whole-dock : (d : Dock) → isWhole d ≡ true → WholeDock d
 whole-dock d e = record {
   image = eqb-true (length (d .image)) imageSize (and-l (eqb (length (d .image)) imageSize) (eqb (length (d .store)) 16384) e);
   store = eqb-true (length (d .store)) 16384 (and-r (eqb (length (d .image)) imageSize) (eqb (length (d .store)) 16384) e);

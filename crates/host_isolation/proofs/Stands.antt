@@ -20,7 +20,7 @@ use Rattle.image.specs.Image.{encode, decode, isImage}
 use Rattle.image.proofs.RoundTrip.{decode-encode, encode-is-image, image-whole}
 use Rattle.lending.specs.Batch.{tablesOk}
 use Rattle.lending.specs.Host.{EmptiedImage, emptyImage, orderOf}
-use Rattle.host_isolation.specs.Calls.{Dock, Whole, emptying, left}
+use Rattle.host_isolation.specs.Calls.{Dock, WholeDock, emptying, left}
 
 pub record Stands (d : Dock) (s : State) : Type 0 where
   pub image : d .image ≡ encode (s .tables)
@@ -41,7 +41,7 @@ module _ (d : Dock) (s : State) (h : Stands d s) where
   unfolding tablesOk
   tables-ok = and-intro is-image in-order
 
-  pub stands-whole : Whole d
+  pub stands-whole : WholeDock d
   stands-whole = record { image = image-whole (d .image) is-image; store = ap length (h .store) ∙ h .ok .store }
 
   pub order-0 : orderOf (d .image) ≡ 0
@@ -56,7 +56,7 @@ pub is-emptied : (image store : List ℕ) → length image ≡ imageSize → len
 unfolding emptyImage emptied
 is-emptied image store a b = rw (eq-eqb (length image) imageSize a, eq-eqb (length store) 16384 b)
 
-pub emptied-stands : (d : Dock) → Whole d → Stands (left d emptying) emptyDock
+pub emptied-stands : (d : Dock) → WholeDock d → Stands (left d emptying) emptyDock
 unfolding left emptyDock
 emptied-stands d w =
     let e = is-emptied (d .image) (d .store) (w .image) (w .store) in

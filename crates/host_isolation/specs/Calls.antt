@@ -33,7 +33,7 @@ pub record Dock : Type 0 where
   pub image : List ℕ
   pub store : List ℕ
 
-pub record Whole (d : Dock) : Type 0 where
+pub record WholeDock (d : Dock) : Type 0 where
   pub image : length (d .image) ≡ imageSize
   pub store : length (d .store) ≡ 16384
 
@@ -173,7 +173,7 @@ IsolatedForHosts =
 -- ---- A call that is refused makes no request, so that the claim is silent about it. That others cannot bring about a refusal is said here: 14
 -- never comes, as a result or in an answer, and 13 and 17 only where a buffer that is handed in beside the dock has another length.
 pub record Usable (d : Dock) : Type 0 where
-  pub whole : Whole d
+  pub whole : WholeDock d
   pub never14 : (c : Call) → result d c ≡ 14 → ⊥
   pub answered : (c : Call) → all (λ x. leb (getD (x .answer) 0 0) 12) (made d c) ≡ true
   pub emptied : result d emptying ≡ 0
@@ -184,4 +184,4 @@ pub record Usable (d : Dock) : Type 0 where
   pub traced : (input output : List ℕ) → traceRoom ≤ length output → traceRefusal (lentTrace d input output) ≡ 0
 
 abbrev pub UsableForHosts : Type 0
-UsableForHosts = (d : Dock) → Whole d → (cs : List Call) → Usable (leftByAll d (emptying ∷ cs))
+UsableForHosts = (d : Dock) → WholeDock d → (cs : List Call) → Usable (leftByAll d (emptying ∷ cs))

@@ -31,12 +31,14 @@ same-length c = search needs
 returns : tie.Need-returns
 unfolding outputNames bytes
 returns c =
-    let a = c .before .before .before .before .before .before .before .before .before .before .before .before .before .before .args in
+    let known = c .before .before .before .before .before .before .before .before .before .before .before .before .before in
+    let a = known .before .args in
     let input = a .input .now in
     let here = dockOf (a .tables .now) (a .store .now) in
-    let bad = too-long input (c .before .before .before .before .if1 .taken) in (
+    let bad = too-long input (c .before .before .before .before .if1 .taken) in
+    let same = same-dock (a .sure) _ _ (λ j. omega (arith, known .slice-known .given j)) (known .before .pre) in (
       refused-trace _ _ _ (c .before .before .before .before .before .before .before .append .ensures) here input _ _ bad (c .before .before .append-other .ensures),
-      refused-leaves here input bad (same-dock (a .sure) _ _ (λ j. omega (arith, c .before .before .before .before .before .before .before .before .before .before .before .before .before .slice-known .given j)) (c .before .before .before .before .before .before .before .before .before .before .before .before .before .before .pre)),
+      refused-leaves here input bad same,
     )
 
 slice-aggregate-first-line : tie.Need-slice-aggregate-first-line
@@ -55,30 +57,36 @@ same-length-2 c = search needs
 returns-2 : tie.Need-returns-2
 unfolding outputNames inputNames bytes
 returns-2 c =
-    let a = c .before .before .before .before .before .before .before .before .before .before .before .before .before .before .before .before .before .before .args in
+    let known = c .before .before .before .before .before .before .before .before .before .before .before .before .before .before .before .before .before in
+    let a = known .before .args in
     let input = a .input .now in
     let here = dockOf (a .tables .now) (a .store .now) in
-    let bad = other-names input _ (c .before .before .before .before .before .before .first-line .ensures) (not-true _ (c .before .before .before .before .if2 .taken)) in (
+    let bad = other-names input _ (c .before .before .before .before .before .before .first-line .ensures) (not-true _ (c .before .before .before .before .if2 .taken)) in
+    let same = same-dock (a .sure) _ _ (λ j. omega (arith, known .slice-known .given j)) (known .before .pre) in (
       refused-trace _ _ _ (c .before .before .before .before .before .before .before .before .before .before .before .append .ensures) here input _ _ bad (c .before .before .append-other2 .ensures),
-      refused-leaves here input bad (same-dock (a .sure) _ _ (λ j. omega (arith, c .before .before .before .before .before .before .before .before .before .before .before .before .before .before .before .before .before .slice-known .given j)) (c .before .before .before .before .before .before .before .before .before .before .before .before .before .before .before .before .before .before .pre)),
+      refused-leaves here input bad same,
     )
 
 add-serve-lines : tie.Need-add-serve-lines
 unfolding inputNames bytes
-add-serve-lines c = omega (arith, end-inside (c .before .before .before .before .before .before .before .before .before .before .before .before .before .before .before .before .before .args .input .now) _ (c .before .before .before .before .before .first-line .ensures))
+add-serve-lines c =
+    let input = c .before .before .before .before .before .before .before .before .before .before .before .before .before .before .before .before .before .args .input .now in
+    omega (arith, end-inside input _ (c .before .before .before .before .before .first-line .ensures))
 
 serve-lines-requires : tie.Need-serve-lines-requires
 unfolding outputNames inputNames bytes
 serve-lines-requires c κs =
-    let a = c .before .before .before .before .before .before .before .before .before .before .before .before .before .before .before .before .before .before .args in
+    let start = c .before .before .before .before .before .before .before .before .before .before .before .before .before .before .before .before .before .before in
+    let a = start .args in
     let input = a .input .now in
+    let names = names-end _ _ _ (c .before .before .before .before .before .before .before .before .before .before .before .append .ensures) in
     let short : length input ≤ longestInput = omega (arith, c .before .before .before .before .before .before .before .before .if1 .left) in
     let told = c .before .before .before .before .before .before .first-line .ensures in
     let ok = is-ok input _ told short (not-false _ (c .before .before .before .before .if2 .left)) in (
-      c .before .before .before .before .before .before .before .before .before .before .before .before .before .before .before .before .before .before .pre,
+      start .pre,
       (
         record { short = short; first = omega arith; inside = omega (arith, end-inside input _ told) },
-        served-fits (dockOf (a .tables .now) (a .store .now)) input _ told _ (names-end _ _ _ (c .before .before .before .before .before .before .before .before .before .before .before .append .ensures)) ok,
+        served-fits (dockOf (a .tables .now) (a .store .now)) input _ told _ names ok,
       ),
     )
 
@@ -94,14 +102,16 @@ same-length-5 c = search needs
 returns-3 : tie.Need-returns-3
 unfolding outputNames inputNames bytes
 returns-3 c =
-    let a = c .before .before .before .before .before .before .before .before .before .before .before .before .before .before .before .before .before .before .before .before .before .before .before .before .before .args in
+    let put = c .before .before .before .before .before .before .before .before .before .before .before .before .before .before .before .before .before .before in
+    let names = put .append .ensures in
+    let a = put .before .before .before .before .before .before .before .args in
     let input = a .input .now in
     let here = dockOf (a .tables .now) (a .store .now) in
     let short : length input ≤ longestInput = omega (arith, c .before .before .before .before .before .before .before .before .before .before .before .before .before .before .before .if1 .left) in
     let told = c .before .before .before .before .before .before .before .before .before .before .before .before .before .first-line .ensures in
     let ok = is-ok input _ told short (not-false _ (c .before .before .before .before .before .before .before .before .before .before .before .if2 .left)) in
     let lines = c .before .before .before .before .before .before .serve-lines .ensures in (
-      served-trace _ _ _ (c .before .before .before .before .before .before .before .before .before .before .before .before .before .before .before .before .before .before .append .ensures) here input _ _ ok (append-as _ _ _ _ _ _ (sym (served-answers here input _ told)) (lines .0)),
+      served-trace _ _ _ names here input _ _ ok (append-as _ _ _ _ _ _ (sym (served-answers here input _ told)) (lines .0)),
       served-leaves here input _ told ok (lines .1),
     )
 

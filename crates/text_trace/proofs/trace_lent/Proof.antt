@@ -1,11 +1,10 @@
 -- Each return is one case of the tests before it; the last one has written the whole trace.
 use mathlib.Core.Path.{sym, _∙_}
-use native.Mathlib.Omega.{arith}
 use borrow.Author.Needs.{needs}
 use borrow.Author.Tests.{not-true, not-false}
-use Rattle.batch.proofs.Refusals.{tables-bad, tables-ok, is-image, is-in-order}
+use Rattle.batch.proofs.Refusals.{tables-bad, tables-ok}
 use Rattle.lending.specs.Trace.{traceBuffers}
-use Rattle.text_trace.proofs.LentTrace.{other-tables, other-store, bad-tables, too-short, whole}
+use Rattle.text_trace.proofs.LentTrace.{tested, other-tables, other-store, bad-tables, too-short, whole}
 use Rattle.text_trace.proofs.trace_lent.Statement.{statement}
 use Rattle.text_trace.proofs.trace_lent.Tie as tie
 
@@ -36,14 +35,8 @@ no-far-child-requires c κs = search needs
 
 fits-requires : tie.Need-fits-requires
 fits-requires c κs =
-    let tables = c .before .before .before .before .before .before .before .before .before .before .before .before .before .args .tables .now in
-    let told = c .before .before .before .before .before .image-in-order .ensures in
-    record {
-      is = is-image tables told (c .before .before .before .before .if3 .left);
-      order = λ e. is-in-order tables told (c .before .before .before .before .if3 .left);
-      noFar = λ e. sym (c .before .before .no-far-child .ensures) ∙ e;
-      store = c .before .before .before .before .before .before .before .if2 .left;
-    }
+    let order = c .before .before .before .before .before in
+    tested _ _ (order .image-in-order .ensures) (c .before .before .before .before .if3 .left) (c .before .before .no-far-child .ensures) (order .before .before .if2 .left)
 
 same-length-2 : tie.Need-same-length-2
 same-length-2 c = search needs
@@ -53,20 +46,16 @@ same-length-3 c = search needs
 
 returns-4 : tie.Need-returns-4
 returns-4 c =
-    let a = c .before .before .before .before .before .before .before .before .before .before .before .before .before .before .before .args in
-    too-short (traceBuffers (a .tables .now) (a .store .now) (a .input .now) (a .output .now)) (c .before .before .before .before .before .before .before .before .before .before .if1 .left) (c .before .before .before .before .before .before .before .before .before .if2 .left)
-    (tables-ok (a .tables .now) (c .before .before .before .before .before .before .before .image-in-order .ensures) (c .before .before .before .before .before .before .if3 .left)) (sym (c .before .fits2 .ensures) ∙ not-true _ (c .if4 .taken))
+    let order = c .before .before .before .before .before .before .before in
+    let a = order .before .before .before .before .before .before .before .before .args in
+    let good = tables-ok (a .tables .now) (order .image-in-order .ensures) (c .before .before .before .before .before .before .if3 .left) in
+    too-short (traceBuffers (a .tables .now) (a .store .now) (a .input .now) (a .output .now)) (order .before .before .before .if1 .left) (order .before .before .if2 .left)
+    good (sym (c .before .fits2 .ensures) ∙ not-true _ (c .if4 .taken))
 
 put-trace-requires : tie.Need-put-trace-requires
 put-trace-requires c κs =
-    let tables = c .before .before .before .before .before .before .before .before .before .before .before .before .before .before .before .before .before .before .args .tables .now in
-    let told = c .before .before .before .before .before .before .before .before .before .before .image-in-order .ensures in
-    record {
-      is = is-image tables told (c .before .before .before .before .before .before .before .before .before .if3 .left);
-      order = λ e. is-in-order tables told (c .before .before .before .before .before .before .before .before .before .if3 .left);
-      noFar = λ e. sym (c .before .before .before .before .before .before .before .no-far-child .ensures) ∙ e;
-      store = c .before .before .before .before .before .before .before .before .before .before .before .before .if2 .left;
-    }
+    let order = c .before .before .before .before .before .before .before .before .before .before in
+    tested _ _ (order .image-in-order .ensures) (c .before .before .before .before .before .before .before .before .before .if3 .left) (c .before .before .before .before .before .before .before .no-far-child .ensures) (order .before .before .if2 .left)
 
 same-length-4 : tie.Need-same-length-4
 same-length-4 c = search needs
@@ -79,10 +68,13 @@ same-length-6 c = search needs
 
 returns-5 : tie.Need-returns-5
 returns-5 c =
-    let a = c .before .before .before .before .before .before .before .before .before .before .before .before .before .before .before .before .before .before .before .before .before .before .before .before .before .args in
+    let order = c .before .before .before .before .before .before .before .before .before .before .before .before .before .before .before .before .before in
+    let a = order .before .before .before .before .before .before .before .before .args in
+    let good = tables-ok (a .tables .now) (order .image-in-order .ensures) (c .before .before .before .before .before .before .before .before .before .before .before .before .before .before .before .before .if3 .left) in
+    let fits = sym (c .before .before .before .before .before .before .before .before .before .before .before .fits2 .ensures) ∙ not-false _ (c .before .before .before .before .before .before .before .before .before .before .if4 .left) in
     let put = c .before .before .before .before .before .before .put-trace .ensures in
-    whole (traceBuffers (a .tables .now) (a .store .now) (a .input .now) (a .output .now)) (c .before .before .before .before .before .before .before .before .before .before .before .before .before .before .before .before .before .before .before .before .if1 .left) (c .before .before .before .before .before .before .before .before .before .before .before .before .before .before .before .before .before .before .before .if2 .left)
-    (tables-ok (a .tables .now) (c .before .before .before .before .before .before .before .before .before .before .before .before .before .before .before .before .before .image-in-order .ensures) (c .before .before .before .before .before .before .before .before .before .before .before .before .before .before .before .before .if3 .left)) (sym (c .before .before .before .before .before .before .before .before .before .before .before .fits2 .ensures) ∙ not-false _ (c .before .before .before .before .before .before .before .before .before .before .if4 .left)) (put .0) (put .1)
+    whole (traceBuffers (a .tables .now) (a .store .now) (a .input .now) (a .output .now)) (order .before .before .before .if1 .left) (order .before .before .if2 .left)
+    good fits (put .0) (put .1)
 
 pub trace-lent-spec : {M : Type 1} → statement M
 trace-lent-spec =
