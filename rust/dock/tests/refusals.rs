@@ -115,3 +115,25 @@ fn of_tables_not_in_order() {
     assert_eq!(dock.ask_all(&requests, &mut [[0; SHEET]], &mut answers), Err(Refusal::NotInOrder));
     assert!(dock.tables == before.tables && dock.store == before.store);
 }
+
+#[test]
+fn of_traces() {
+    const NAMES: &[u8] = b"pad program op ticket topad toprogram first count rights fill\n";
+    let text = [NAMES, b"0 0 1 0 0 0 0 4 7 0\n0 0\n"].concat();
+    let other_form = Refusal::OtherForm.number();
+    let wanted = format!("line result ticket recipient byte\n1 0 1 0 0\n2 {other_form} 0 0 0\n");
+
+    let (mut dock, empty) = (Dock::new(), Dock::new());
+    let mut output = vec![0; wanted.len()];
+    assert_eq!(dock.trace(&text, &mut output[1..]), Err(Refusal::TooShort));
+    assert!(output.iter().all(|&byte| byte == 0) && dock.tables == empty.tables);
+    assert_eq!(dock.trace(&text, &mut output), Ok(wanted.len()));
+    assert_eq!(output, wanted.as_bytes());
+    assert!(dock.tables == one_grant().tables && dock.store == one_grant().store);
+
+    dock.tables[layout::TICKET_KIND_AT] = 5;
+    assert_eq!(dock.trace(&text, &mut output), Err(Refusal::NotInOrder));
+    let mut length = 1;
+    let result = raw::trace(&mut dock.tables[1..], &mut dock.store[..], &text, &mut output, &mut length);
+    assert_eq!((Refusal::from_number(result), length), (Some(Refusal::Length), 0));
+}
