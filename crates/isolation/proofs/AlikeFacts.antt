@@ -7,7 +7,7 @@ use mathlib.Core.Bool.{Bool, true, false, _||_, cond}
 use mathlib.Core.List.{List, [], _∷_, map}
 use lib.ListN.{getD, List·getD-map}
 use Rattle.lists.specs.Lists.{firstIndex, some}
-use Rattle.lists.proofs.Tests.{cannot-fail, contradiction}
+use Rattle.lists.proofs.Tests.{cannot-fail, contradiction, both-ways}
 use Rattle.tables.specs.declared.{Name.Name, Kind.Kind, Ticket.Ticket, Program.Program, Entry.Entry}
 use Rattle.tables.specs.declared.Kind.the-variants.{Free, Taken, Received, Child, Recall}
 use Rattle.tables.specs.Names.{isNone, free}
@@ -21,13 +21,15 @@ use Rattle.machine.specs.Isolation.{owns}
 use Rattle.preservation.proofs.AfterChange.{lookup-programs, no-entry-there}
 use Rattle.preservation.proofs.Walks.{reaches-same}
 use Rattle.preservation.proofs.ChainSteps.{entry-fits}
+use Rattle.preservation.proofs.LentAway.{lent-away, lent-from}
+use Rattle.machine.specs.Recall.{lentAway}
 use Rattle.isolation.specs.Alike.{blur, blurEntry, Mine, Alike, Quiet, sheetIn, Parted}
-use Rattle.isolation.proofs.Sides.{parent-side, dock-side}
-use Rattle.tables.specs.Kinds.{isGrant}
+use Rattle.isolation.proofs.Sides.{parent-side, dock-side, lender-side}
+use Rattle.tables.specs.Kinds.{isGrant, isRecall}
 
 -- a sheet of the group's is a sheet of the store
 pub mine-low : (g : Group) (s : State) → Parted g s → {n : Name} {a : ℕ} → Mine g (s .tables) n a → sheetIn (s .tables) n a < 256
-mine-low g s p {n} m = omega (arith, entry-fits (s .tables) (p .dock .tables .order) n (m .live), m .low)
+mine-low g s p {n} m = omega (arith, entry-fits (s .tables) (p .dock .tables) n (m .live), m .low)
 
 -- ---- tests and searches that do not look at the first sheet
 first-blur : (f : Ticket → Bool) → ((k : Ticket) → f (blur k) ≡ f k) → (l : List Ticket) → firstIndex f (map blur l) ≡ firstIndex f l
@@ -123,7 +125,7 @@ module _ (g : Group) (s u : State) (al : Alike g s u) where
   pub under-same : (x n : Name) → owns g n ≡ true → atOrUnder (s .tables) x n ≡ atOrUnder (u .tables) x n
   under-same x n h =
       reaches-same (parentOf (lookup (s .tables))) (parentOf (lookup (u .tables))) (λ m. owns g m ≡ true) (λ m o. ap isNone (same-parent m o))
-      (λ m o z. (same-parent m o, parent-side g (s .tables) (al .here .dock .tables .order) (al .here .unlinked) m z ∙ o)) x 64 n h
+      (λ m o z. (same-parent m o, parent-side g (s .tables) (al .here .dock .tables) (al .here .unlinked) m z ∙ o)) x 64 n h
 
   pub below-same : (x n : Name) → owns g n ≡ true → atOrBelow (s .tables) x n ≡ atOrBelow (u .tables) x n
   below-same x n h =
@@ -144,7 +146,7 @@ module _ (g : Group) (s u : State) (al : Alike g s u) where
     offset = λ n h k l.
         let e = same-dock n h in
         let k₀ : isGrant (lookup (s .tables) n .kind) ≡ true = ap isGrant (same-kind n h) ∙ k in
-        let o : owns g (lookup (s .tables) n .dock) ≡ true = dock-side g (s .tables) (al .here .dock .tables .order) (al .here .unlinked) n k₀ ∙ h in
+        let o : owns g (lookup (s .tables) n .dock) ≡ true = dock-side g (s .tables) (al .here .dock .tables) (al .here .unlinked) n k₀ ∙ h in
         let l₀ : entryOf (s .tables) (lookup (s .tables) n .dock) .live ≡ true = same-live (lookup (s .tables) n .dock) o ∙ ap (λ (m : Name). entryOf (u .tables) m .live) e ∙ l in
         rw (sym e) (sym (al .offset n h k₀ l₀));
     overlap = λ n m a b x y. let o = al .overlap n m a b (mine-here x) (mine-here y) in (o .1, o .0);
@@ -152,6 +154,28 @@ module _ (g : Group) (s u : State) (al : Alike g s u) where
   }
 
 -- ---- a step that the group does not notice keeps two states alike
+-- what was lent away from the tickets that go is the same on both sides
+lent-there : (g : Group) (s u : State) → Alike g s u → (gone gone₂ : Name → Bool) → ((n : Name) → owns g n ≡ true → gone n ≡ gone₂ n)
+    → (n : Name) → owns g n ≡ true → lentAway (s .tables) gone n ≡ true → lentAway (u .tables) gone₂ n ≡ true
+lent-there g s u al gone gone₂ agree n o e =
+    let f = lent-from (s .tables) (al .here .dock .tables) gone n e in
+    let own : owns g (f .by) ≡ true = lender-side g (s .tables) (al .here .dock .tables) (al .here .unlinked) gone n o f in
+    let target = same-other g s u al (f .by) own in
+    lent-away (u .tables) (al .there .dock .tables) gone₂ n
+    (record {
+      by = f .by;
+      recall = ap isRecall (sym (same-kind g s u al (f .by) own)) ∙ f .recall;
+      goes = sym (agree (f .by) own) ∙ f .goes;
+      away = λ p. f .away (ap (λ (m : Name). m .pad) target ∙ p);
+      below = ap (λ (x : Name). atOrBelow (u .tables) x n) (sym target) ∙ sym (below-same g s u al _ n o) ∙ f .below;
+    })
+
+pub lent-same : (g : Group) (s u : State) → Alike g s u → (gone gone₂ : Name → Bool) → ((n : Name) → owns g n ≡ true → gone n ≡ gone₂ n)
+    → (n : Name) → owns g n ≡ true → lentAway (s .tables) gone n ≡ lentAway (u .tables) gone₂ n
+lent-same g s u al gone gone₂ agree n o =
+    both-ways (lentAway (s .tables) gone n) (lentAway (u .tables) gone₂ n) (lent-there g s u al gone gone₂ agree n o)
+    (lent-there g u s (alike-sym g s u al) gone₂ gone (λ m h. sym (agree m h)) n o)
+
 module _ (g : Group) (s s′ u : State) (al : Alike g s u) (q : Quiet g s s′) where
   ticket-kept : (n : Name) → owns g n ≡ true → lookup (s′ .tables) n ≡ lookup (s .tables) n
   ticket-kept n h = lookup-programs (s .tables) (s′ .tables) n (q .programs (n .pad) (n .program) h)
@@ -169,7 +193,7 @@ module _ (g : Group) (s s′ u : State) (al : Alike g s u) (q : Quiet g s s′) 
     offset = λ n h gr l.
         let a = ticket-kept n h in
         let gr₀ : isGrant (lookup (s .tables) n .kind) ≡ true = rw a at gr in
-        let d : owns g (lookup (s .tables) n .dock) ≡ true = dock-side g (s .tables) (al .here .dock .tables .order) (al .here .unlinked) n gr₀ ∙ h in
+        let d : owns g (lookup (s .tables) n .dock) ≡ true = dock-side g (s .tables) (al .here .dock .tables) (al .here .unlinked) n gr₀ ∙ h in
         let b = q .entries (lookup (s .tables) n .dock) d in
         let l₀ : entryOf (s′ .tables) (lookup (s .tables) n .dock) .live ≡ true = rw a at l in
         rw (a, b) (al .offset n h gr₀ (rw b at l₀));

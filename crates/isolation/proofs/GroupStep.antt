@@ -21,7 +21,8 @@ use Rattle.machine.specs.State.{State, Outcome, answerOf, accepted, refused, wi
 use Rattle.machine.specs.Operation.{Operation, taking, passing, recalling, givingBack, reading, writing, operationOf, usedBy, fieldsOk}
 use Rattle.machine.specs.Take.{afterTake}
 use Rattle.machine.specs.Pass.{afterPass}
-use Rattle.machine.specs.Recall.{recallTables, afterRecall}
+use Rattle.machine.specs.Isolation.{owns}
+use Rattle.machine.specs.Recall.{lentAway, goesWith, recallTables, afterRecall}
 use Rattle.machine.specs.GiveBack.{giveBackTables, afterGiveBack}
 use Rattle.machine.specs.Access.{sheetOf, afterRead, afterWrite}
 use Rattle.machine.specs.Step.{ownRefusal, requestRefusal, afterOwn, dropHead, outcome, serve}
@@ -38,7 +39,7 @@ use Rattle.preservation.proofs.Taking.{MayTake}
 use Rattle.preservation.proofs.StepKeepsOrder.{serve-keeps-dock}
 use Rattle.isolation.specs.Alike.{Mine, sheetIn, Alike}
 use Rattle.isolation.proofs.Sides.{dock-side}
-use Rattle.isolation.proofs.AlikeFacts.{same-other, same-count, same-dock, under-same, below-same}
+use Rattle.isolation.proofs.AlikeFacts.{lent-same, same-other, same-count, same-dock, under-same, below-same}
 use Rattle.isolation.proofs.SameChange.{alike-put, alike-removed, alike-dropped}
 use Rattle.isolation.proofs.SameRefusal.{access-same, recall-same, give-back-same, pass-same, take-same}
 use Rattle.isolation.proofs.SameTake.{alike-take}
@@ -67,10 +68,10 @@ alike-sheets g s u al a b = record {
 
 module _ (g : Group) (s u : State) (al : Alike g s u) (r : Request) (mine : g (r .pad) (r .program) ≡ true) where
   abbrev ok : InOrder (s .tables)
-  ok = al .here .dock .tables .order
+  ok = al .here .dock .tables
 
   abbrev ok₂ : InOrder (u .tables)
-  ok₂ = al .there .dock .tables .order
+  ok₂ = al .there .dock .tables
 
   abbrev a : Name
   a = askedName r
@@ -98,7 +99,7 @@ module _ (g : Group) (s u : State) (al : Alike g s u) (r : Request) (mine : g (r
   target-same : asked (s .tables) r .other ≡ asked (u .tables) r .other
   target-same = same-other g s u al a mine
 
-  near-tables : (t : Tables) → eqb (asked t r .other .pad) (r .pad) ≡ true → recallTables t r ≡ dropTickets (λ n. eqName n a || atOrUnder t (asked t r .other) n) t
+  near-tables : (t : Tables) → eqb (asked t r .other .pad) (r .pad) ≡ true → recallTables t r ≡ removed (goesWith t r) (lentAway t (goesWith t r)) t
   unfolding recallTables
   near-tables t z = rw z
 
@@ -114,11 +115,14 @@ module _ (g : Group) (s u : State) (al : Alike g s u) (r : Request) (mine : g (r
       DockOk (withTables s (recallTables (s .tables) r)) → DockOk (withTables u (recallTables (u .tables) r))
       → Alike g (withTables s (recallTables (s .tables) r)) (withTables u (recallTables (u .tables) r))
 
+  same-goes : (n : Name) → owns g n ≡ true → goesWith (s .tables) r n ≡ goesWith (u .tables) r n
+  same-goes n o = ap (λ (b : Bool). eqName n a || b) (under-same g s u al _ n o ∙ ap (λ (x : Name). atOrUnder (u .tables) x n) target-same)
+
   near-alike : eqb (asked (s .tables) r .other .pad) (r .pad) ≡ true → RecallAlike
   near-alike z =
       rw (near-tables (s .tables) z, near-tables (u .tables) (target-pad z))
-      (alike-dropped g s u al (λ n. eqName n a || atOrUnder (s .tables) (asked (s .tables) r .other) n) (λ n. eqName n a || atOrUnder (u .tables) (asked (u .tables) r .other) n)
-      (λ n o. ap (λ (b : Bool). eqName n a || b) (under-same g s u al _ n o ∙ ap (λ (x : Name). atOrUnder (u .tables) x n) target-same)))
+      (alike-removed g s u al (goesWith (s .tables) r) (lentAway (s .tables) (goesWith (s .tables) r)) (goesWith (u .tables) r) (lentAway (u .tables) (goesWith (u .tables) r))
+      same-goes (lent-same g s u al (goesWith (s .tables) r) (goesWith (u .tables) r) same-goes))
 
   far-alike : eqb (asked (s .tables) r .other .pad) (r .pad) ≡ false → RecallAlike
   far-alike z =

@@ -15,7 +15,9 @@ use Rattle.machine.specs.Sequence.{Sent, enter, Group, fromGroup, crosses, exch
 use Rattle.machine.specs.Isolation.{Given, Agree, IsolatedFromEmpty, Unlinked, CommonStart, IsolatedFromAny}
 use Rattle.preservation.specs.InOrder.{DockOk}
 use Rattle.preservation.proofs.EmptyDockInOrder.{no-ticket-live, no-entry-live, empty-invariant}
-use Rattle.preservation.proofs.StepKeepsOrder.{step-is-serve, PassesTests, invariant-of, tests-of}
+use Rattle.preservation.proofs.StepKeepsOrder.{step-is-serve}
+use Rattle.preservation.proofs.TestMeansOrder.{test-means-order}
+use Rattle.preservation.proofs.OrderPassesTest.{order-passes-test}
 use Rattle.isolation.specs.Alike.{Parted, Alike}
 use Rattle.isolation.proofs.Edge.{is-possible, is-in-group, on-one-side}
 use Rattle.isolation.proofs.AlikeFacts.{alike-sym, quiet-left}
@@ -28,7 +30,7 @@ module _ (g : Group) where
   -- from a dock in order a request of a sequence is served
   is-served : (s : State) (i : Sent) → DockOk s → served s i ≡ serve (enter s i) (i .request)
   unfolding enter
-  is-served s i ok = step-is-serve (enter s i) (i .request) (ok .tables .order) (ok .store) (i .whole)
+  is-served s i ok = step-is-serve (enter s i) (i .request) (ok .tables) (ok .store) (i .whole)
 
   left : (s u : State) (i : Sent) → Alike g s u → fromGroup g (i .request) ≡ false → crosses g (i .request) ≡ false → Alike g (served s i .state) u
   unfolding enter
@@ -84,7 +86,7 @@ isolation-from-any g s start is js = two-sequences g (Alike g) (left g) (right g
     parted : Parted g s
     parted = record {
       dock = record {
-        tables = invariant-of (s .tables) (record { sized = start .sized; order = start .order; noFar = start .noFar });
+        tables = test-means-order (s .tables) (start .sized) (start .order);
         store = start .store;
       };
       unlinked = start .unlinked;
@@ -101,11 +103,9 @@ empty-unlinked g = record {
 empty-start : (g : Group) → CommonStart g emptyDock
 unfolding emptyDock
 empty-start g =
-    let tests : PassesTests emptyTables = tests-of emptyTables empty-invariant in
     record {
-      sized = tests .sized;
-      order = tests .order;
-      noFar = tests .noFar;
+      sized = empty-invariant .shape .sized;
+      order = order-passes-test emptyTables empty-invariant;
       unlinked = empty-unlinked g;
       store = length-replicate {A = ℕ} 16384 0;
     }

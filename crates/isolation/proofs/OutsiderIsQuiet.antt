@@ -11,7 +11,7 @@ use lib.Dec.{eqb}
 use lib.ListN.{length, getD, replicate, length-replicate, length-map}
 use lib.Seq.{ext-getD}
 use borrow.Author.Tests.{eqb-true, eqb-false}
-use Rattle.lists.proofs.Tests.{Case, pass, fail, case, no-true}
+use Rattle.lists.proofs.Tests.{Case, pass, fail, case, no-true, cannot-pass}
 use Rattle.lists.proofs.Keyed.{found-somewhere, drop-none, dropped-at}
 use Rattle.tables.specs.declared.{Name.Name, Entry.Entry, Tables.Tables}
 use Rattle.tables.specs.Names.{nameOf, eqName, sameProgram, free, noEntry}
@@ -27,7 +27,7 @@ use Rattle.machine.specs.State.{State, accepted, refused, withTables, clearShee
 use Rattle.machine.specs.Operation.{Operation, taking, passing, recalling, givingBack, reading, writing, operationOf, usedBy, fieldsOk}
 use Rattle.machine.specs.Take.{takeTables, afterTake}
 use Rattle.machine.specs.Pass.{passTables, afterPass}
-use Rattle.machine.specs.Recall.{recallTables, afterRecall}
+use Rattle.machine.specs.Recall.{lentAway, goesWith, recallTables, afterRecall}
 use Rattle.machine.specs.GiveBack.{giveBackTables, afterGiveBack}
 use Rattle.machine.specs.Access.{sheetOf, afterRead, afterWrite}
 use Rattle.machine.specs.Step.{ownRefusal, requestRefusal, afterOwn, dropHead, outcome, serve}
@@ -39,6 +39,8 @@ use Rattle.preservation.proofs.SheetTests.{apart-sym, run-fits, beside}
 use Rattle.preservation.proofs.AfterChange.{removed, entry-removed, no-entry-there}
 use Rattle.preservation.proofs.ChainSteps.{head-is-dock, within-entry, entry-fits}
 use Rattle.preservation.proofs.RemovingOperations.{drop-no-entry}
+use Rattle.preservation.proofs.LentAway.{lent-from}
+use Rattle.tables.proofs.KindLaws.{live-recall}
 use Rattle.preservation.proofs.Taking.{MayTake, TakeEffect, take-effect}
 use Rattle.preservation.proofs.Passing.{MayPass, grantName, pass-near, pass-near-entries, pass-far}
 use Rattle.preservation.proofs.Preconditions.{numberOf, Past, past-request, late-0, late-12, may-take, may-pass, may-recall, may-give-back, MayUse, may-use, Stale, stale-of}
@@ -46,7 +48,7 @@ use Rattle.preservation.proofs.StoreSheets.{sheet-kept}
 use Rattle.preservation.proofs.StepKeepsOrder.{serve-keeps-dock}
 use Rattle.isolation.specs.Alike.{Parted, Quiet}
 use Rattle.isolation.proofs.Edge.{is-outside, on-one-side}
-use Rattle.isolation.proofs.Sides.{dock-side, not-under, not-below, sides-apart}
+use Rattle.isolation.proofs.Sides.{dock-side, not-under, not-below, lender-side, sides-apart}
 use Rattle.isolation.proofs.AlikeFacts.{mine-low}
 use Rattle.isolation.proofs.UnlinkedKept.{unlinked-removed, unlinked-take, unlinked-near, unlinked-far}
 use Rattle.tables.specs.Kinds.{isLive, isTaken, isRecall}
@@ -92,7 +94,7 @@ module _ (g : Group) (s : State) (parted : Parted g s) where
   t = s .tables
 
   abbrev ok : InOrder t
-  ok = parted .dock .tables .order
+  ok = parted .dock .tables
 
   abbrev apart : Unlinked g t
   apart = parted .unlinked
@@ -174,11 +176,19 @@ module _ (g : Group) (s : State) (parted : Parted g s) where
         away : owns g (asked t r .other) ≡ false
         away = apart .target (askedName r) h ∙ out
 
+        stays : (n : Name) → owns g n ≡ true → isLive (lookup t n .kind) ≡ true → goesWith t r n ≡ false
+        stays n o l = rw (not-me n o) (not-under g t ok apart (asked t r .other) away n o l)
+
+        not-lent : (n : Name) → owns g n ≡ true → lentAway t (goesWith t r) n ≡ true → ⊥
+        not-lent n o e =
+            let f = lent-from t ok (goesWith t r) n e in
+            no-true (sym (stays (f .by) (lender-side g t ok apart (goesWith t r) n o f) (live-recall (lookup t (f .by) .kind) (f .recall))) ∙ f .goes)
+
         go : Case (eqb (asked t r .other .pad) (r .pad)) → Quiet g s (withTables s (recallTables t r))
         go (pass z) =
             rw z
-            (quiet-dropped (λ n. eqName n (askedName r) || atOrUnder t (asked t r .other) n) (rw z at dock)
-            (λ n o l. rw (not-me n o) (not-under g t ok apart (asked t r .other) away n o l)))
+            (quiet-removed (goesWith t r) (lentAway t (goesWith t r)) stays
+            (λ n o l. cannot-pass (lentAway t (goesWith t r) n) (not-lent n o)) (rw z at dock))
         go (fail z) =
             rw z
             (quiet-removed (λ n. eqName n (askedName r)) (atOrBelow t (asked t r .other)) (λ n o l. not-me n o)

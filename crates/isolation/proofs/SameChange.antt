@@ -43,10 +43,10 @@ module _ (g : Group) (s u : State) (al : Alike g s u) (d : Name) (own : owns g d
   f₂ = sheetIn (u .tables) d o
 
   fits₁ : f₁ + c ≤ 256
-  fits₁ = omega (arith, entry-fits (s .tables) (al .here .dock .tables .order) d live)
+  fits₁ = omega (arith, entry-fits (s .tables) (al .here .dock .tables) d live)
 
   fits₂ : f₂ + c ≤ 256
-  fits₂ = omega (arith, entry-fits (u .tables) (al .there .dock .tables .order) d (sym (same-live g s u al d own) ∙ live), same-entry-count g s u al d own)
+  fits₂ = omega (arith, entry-fits (u .tables) (al .there .dock .tables) d (sym (same-live g s u al d own) ∙ live), same-entry-count g s u al d own)
 
   abbrev after₁ : State
   after₁ = record { tables = s .tables; store = putSheets f₁ vs (s .store); sheet = s .sheet }
@@ -184,7 +184,7 @@ module _ (g : Group) (s u : State) (al : Alike g s u) (gone cut gone₂ cut₂ :
         let a₂ = ticket₂ n (sym (agree n h) ∙ a .0) in
         let k₀ : isGrant (lookup (s .tables) n .kind) ≡ true = rw (a .1) at k in
         let l₀ : entryOf t₁ (lookup (s .tables) n .dock) .live ≡ true = rw (a .1) at l in
-        let e = entry-both (lookup (s .tables) n .dock) (dock-side g (s .tables) (al .here .dock .tables .order) (al .here .unlinked) n k₀ ∙ h) l₀ in
+        let e = entry-both (lookup (s .tables) n .dock) (dock-side g (s .tables) (al .here .dock .tables) (al .here .unlinked) n k₀ ∙ h) l₀ in
         rw (a .1, a₂, e .0, e .1) (al .offset n h k₀ (rw (e .0) at l₀));
     overlap = λ n m a b x y.
         let c = entry-both n (x .own) (x .live) in

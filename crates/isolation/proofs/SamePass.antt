@@ -35,10 +35,10 @@ use Rattle.tables.specs.Kinds.{isGrant}
 module _ (g : Group) (s u : State) (al : Alike g s u) (r : Request) (mine : g (r .pad) (r .program) ≡ true) (theirs : g (r .topad) (r .toprogram) ≡ true)
     (may : MayPass (s .tables) r) (may₂ : MayPass (u .tables) r) where
   abbrev ok : InOrder (s .tables)
-  ok = al .here .dock .tables .order
+  ok = al .here .dock .tables
 
   abbrev ok₂ : InOrder (u .tables)
-  ok₂ = al .there .dock .tables .order
+  ok₂ = al .there .dock .tables
 
   abbrev a : Name
   a = askedName r

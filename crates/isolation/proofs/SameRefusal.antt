@@ -41,7 +41,7 @@ module _ (g : Group) (s u : State) (al : Alike g s u) (r : Request) (mine : g (r
 
   docked : isGrant (asked (s .tables) r .kind) ≡ true → entryOf (s .tables) (asked (s .tables) r .dock) .live ≡ entryOf (u .tables) (asked (u .tables) r .dock) .live
   docked h =
-      same-live g s u al (asked (s .tables) r .dock) (dock-side g (s .tables) (al .here .dock .tables .order) (al .here .unlinked) (askedName r) h ∙ mine)
+      same-live g s u al (asked (s .tables) r .dock) (dock-side g (s .tables) (al .here .dock .tables) (al .here .unlinked) (askedName r) h ∙ mine)
       ∙ ap (λ (n : Name). entryOf (u .tables) n .live) (same-dock g s u al (askedName r) mine)
 
   spent : (p q : ℕ) → g p q ≡ true → isSpent (s .tables) p q ≡ isSpent (u .tables) p q
@@ -57,8 +57,8 @@ module _ (g : Group) (s u : State) (al : Alike g s u) (r : Request) (mine : g (r
 
   pub access-same : (right : ℕ) → between 1 2 right ≡ true → accessRefusal right (s .tables) r ≡ accessRefusal right (u .tables) r
   access-same right one =
-      access-as-listed (s .tables) (al .here .dock .tables .order) r right one ∙ starts _ _ (λ h. rw (count, rights, docked h))
-      ∙ sym (access-as-listed (u .tables) (al .there .dock .tables .order) r right one)
+      access-as-listed (s .tables) (al .here .dock .tables) r right one ∙ starts _ _ (λ h. rw (count, rights, docked h))
+      ∙ sym (access-as-listed (u .tables) (al .there .dock .tables) r right one)
 
   pub recall-same : recallRefusal (s .tables) r ≡ recallRefusal (u .tables) r
   unfolding recallRefusal

@@ -72,10 +72,10 @@ module _ (g : Group) (s u : State) (al : Alike g s u) (r : Request) (mine : g (r
   made n f = entryFor n noName f (r .count) (rightsOf (r .rights))
 
   effect : TakeEffect (s .tables) t₁ r x f₁
-  effect = take-effect (s .tables) (al .here .dock .tables .order) r may
+  effect = take-effect (s .tables) (al .here .dock .tables) r may
 
   effect₂ : TakeEffect (u .tables) t₂ r y f₂
-  effect₂ = take-effect (u .tables) (al .there .dock .tables .order) r may₂
+  effect₂ = take-effect (u .tables) (al .there .dock .tables) r may₂
 
   -- ---- the second side, by the first side's name
   tickets₂ : (n : Name) → (n ≡ x → ⊥) → lookup t₂ n ≡ lookup (u .tables) n
@@ -130,7 +130,7 @@ module _ (g : Group) (s u : State) (al : Alike g s u) (r : Request) (mine : g (r
       let k₀ : isGrant (lookup (s .tables) n .kind) ≡ true = rw a at k in
       let l₀ : entryOf t₁ (lookup (s .tables) n .dock) .live ≡ true = rw a at l in
       let v : lookup (s .tables) n .dock ≡ x → ⊥
-      = not-past (s .tables) (al .here .dock .tables .order) x refl (lookup (s .tables) n .dock) (dock-live (s .tables) (al .here .dock .tables .order) n k₀) in
+      = not-past (s .tables) (al .here .dock .tables) x refl (lookup (s .tables) n .dock) (dock-live (s .tables) (al .here .dock .tables) n k₀) in
       rw (a, tickets₂ n z, effect .entries (lookup (s .tables) n .dock) v, entries₂ (lookup (s .tables) n .dock) v)
       (al .offset n h k₀ (rw (effect .entries (lookup (s .tables) n .dock) v) at l₀))
 

@@ -4,22 +4,24 @@ use Prim.Native.Nat.{ℕ, zero, suc, _+_, _≤_}
 use native.Mathlib.Omega.{arith}
 use mathlib.Core.Path.{_≡_, refl, sym, ap, _∙_}
 use mathlib.Core.Logic.{_⊎_, inl, inr}
-use mathlib.Core.Bool.{true, false}
-use Rattle.lists.proofs.Tests.{no-true}
+use mathlib.Core.Bool.{Bool, true, false}
+use Rattle.lists.proofs.Tests.{Case, pass, fail, case, no-true}
 use Rattle.tables.specs.declared.{Name.Name, Entry.Entry, Tables.Tables}
 use Rattle.tables.specs.Names.{eqName, isNone}
 use Rattle.tables.specs.Lookup.{lastOf, lookup, entryOf}
 use Rattle.tables.specs.Chains.{reaches, parentOf, atOrUnder, entryParent, atOrBelow}
 use Rattle.tables.specs.Order.{underStore}
 use Rattle.tables.proofs.KindLaws.{live-grant, grant-sort, up-child, up-recall, has-parent}
-use Rattle.tables.proofs.NameLaws.{eqName-false}
+use Rattle.tables.proofs.NameLaws.{eqName-true, eqName-false}
 use Rattle.tables.proofs.Links.{reaches-here, reaches-next}
 use Rattle.machine.specs.Sequence.{Group}
 use Rattle.machine.specs.Isolation.{owns, Unlinked}
 use Rattle.preservation.specs.Rules.{Apart, UnderOk, Ends, here, up}
 use Rattle.preservation.specs.InOrder.{InOrder}
 use Rattle.preservation.proofs.RuleFacts.{child-up, child-linked, parent-grant}
-use Rattle.preservation.proofs.ChainSteps.{has-chain}
+use Rattle.preservation.proofs.ChainSteps.{has-chain, at-root}
+use Rattle.preservation.proofs.AfterChange.{no-entry-there}
+use Rattle.preservation.proofs.LentAway.{LentFrom}
 use Rattle.tables.specs.Kinds.{isLive, isGrant, isHead, isChild, isRecall}
 
 module _ (g : Group) (t : Tables) (ok : InOrder t) (apart : Unlinked g t) where
@@ -71,6 +73,21 @@ module _ (g : Group) (t : Tables) (ok : InOrder t) (apart : Unlinked g t) where
     pub not-below : (n : Name) → owns g n ≡ true → entryOf t n .live ≡ true → atOrBelow t x n ≡ false
     not-below n o l =
         reaches-not (entryParent (entryOf t)) (λ m. entryOf t m .live ≡ true) (λ m h z. ok .rules .under m h z .live) (apart .entry) (ok .rules .entryChain n l .1) l o 256
+
+  -- what the group's entry is at or below is the group's; a name that has no entry is only at itself
+  pub below-side : (x n : Name) → owns g n ≡ true → atOrBelow t x n ≡ true → owns g x ≡ true
+  below-side x n o e = go (case (owns g x)) (case (entryOf t n .live))
+    where
+      go : Case (owns g x) → Case (entryOf t n .live) → owns g x ≡ true
+      go (pass h) _ = h
+      go (fail h) (pass l) = no-true (sym (not-below x h n o l) ∙ e)
+      go (fail h) (fail l) =
+          let z : underStore (entryOf t n) ≡ true = ap underStore (no-entry-there t n l) in
+          ap (owns g) (sym (eqName-true n x (sym (at-root t ok x n z) ∙ e))) ∙ o
+
+  -- a recall from which the group's entry was lent away is the group's
+  pub lender-side : (gone : Name → Bool) (n : Name) → owns g n ≡ true → (f : LentFrom t gone n) → owns g (f .by) ≡ true
+  lender-side gone n o f = sym (apart .target (f .by) (f .recall)) ∙ below-side (lookup t (f .by) .other) n o (f .below)
 
   -- ---- entries of the two sides share no sheet
   -- the entry directly under the store that an entry comes from

@@ -49,12 +49,8 @@ starts =
     record { tables = emptyTables; store = replicate 16385 0; lines = line 0 0 1 0 0 0 0 1 7 0 (gives 13 0 0 0) ∷ [] } ∷
     -- "14 tables are not in order", before 1
     record { tables = outOfOrder; store = emptyStore; lines = line 4 0 0 0 0 0 0 0 0 0 (gives 14 0 0 0) ∷ [] } ∷
-    -- T1 to T6 alone are not kept: the recall is accepted and leaves a child that no recall names
-    record {
-      tables = farChild;
-      store = emptyStore;
-      lines = line 0 0 3 2 0 0 0 0 0 0 (gives 0 0 0 0) ∷ line 0 0 5 1 0 0 0 0 0 0 (gives 14 0 0 0) ∷ [];
-    } ∷
+    -- "no recall names a live child of another pad"
+    record { tables = farChild; store = emptyStore; lines = line 0 0 3 2 0 0 0 0 0 0 (gives 14 0 0 0) ∷ [] } ∷
     -- places and numbers spent; the last number is still given
     record {
       tables = withLast 0 0 65534 emptyTables;

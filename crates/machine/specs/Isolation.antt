@@ -10,7 +10,7 @@ use Rattle.tables.specs.declared.{Name.Name, Tables.Tables}
 use Rattle.tables.specs.Kinds.{isChild, isRecall}
 use Rattle.tables.specs.Names.{isNone}
 use Rattle.tables.specs.Lookup.{Sized, lookup, entryOf}
-use Rattle.tables.specs.Order.{inOrder, noFarChild}
+use Rattle.tables.specs.Order.{inOrder}
 use Rattle.machine.specs.State.{State}
 use Rattle.machine.specs.Empty.{emptyDock}
 use Rattle.machine.specs.Sequence.{Sent, Group, noneCrosses, Exchange, groupExchanges}
@@ -55,11 +55,10 @@ pub record Unlinked (g : Group) (t : Tables) : Type 0 where
   pub target : (n : Name) → isRecall (lookup t n .kind) ≡ true → owns g (lookup t n .other) ≡ owns g n
   pub entry : (n : Name) → entryOf t n .live ≡ true → isNone (entryOf t n .parent) ≡ false → owns g (entryOf t n .parent) ≡ owns g n
 
--- tables in order, in which no recall names a live child of another pad, and a whole store
+-- tables in order and a whole store
 pub record CommonStart (g : Group) (s : State) : Type 0 where
   pub sized : Sized (s .tables)
   pub order : inOrder (s .tables) ≡ true
-  pub noFar : noFarChild (s .tables) ≡ true
   pub unlinked : Unlinked g (s .tables)
   pub store : length (s .store) ≡ 16384
 

@@ -3,3 +3,4 @@ pub mod Reaching
 pub mod Queue
 pub mod Turns
 pub mod InImage
+pub mod Again

@@ -48,7 +48,7 @@ module _ (parent : Name → Name) (x : Name) where
       go (fail z) ih = let r : reaches left parent (parent n) x ≡ reaches (suc left) parent (parent n) x = ih (rw z at e) in rw (z, r)
 
   -- so it reaches what its parent's walk reaches
-  reaches-up : (left : ℕ) (n : Name) → isNone (endOf (suc left) parent n) ≡ false → isNone (parent n) ≡ false → reaches (suc left) parent (parent n) x ≡ true
+  pub reaches-up : (left : ℕ) (n : Name) → isNone (endOf (suc left) parent n) ≡ false → isNone (parent n) ≡ false → reaches (suc left) parent (parent n) x ≡ true
       → reaches (suc left) parent n x ≡ true
   reaches-up left n e z h =
       reaches-next parent x left n z

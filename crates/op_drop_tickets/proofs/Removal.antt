@@ -42,17 +42,17 @@ is-mark : (b : Bool) → eqb (markOf b) 1 ≡ b
 is-mark true = refl
 is-mark false = refl
 
-mark-at : (test : ℕ → Bool) (i : ℕ) → i < 64 → eqb (getD (marksOf test) i 0) 1 ≡ test i
+pub mark-at : (test : ℕ → Bool) (i : ℕ) → i < 64 → eqb (getD (marksOf test) i 0) 1 ≡ test i
 unfolding marksOf
 mark-at test i h = ap (λ (m : ℕ). eqb m 1) (getD-tabulate 64 (λ j. markOf (test j)) i 0 h) ∙ is-mark (test i)
 
 -- the test by places agrees with the names on the pad's live tickets
-abbrev Agrees : Tables → ℕ → (ℕ → Bool) → (Name → Bool) → Type 0
+abbrev pub Agrees : Tables → ℕ → (ℕ → Bool) → (Name → Bool) → Type 0
 Agrees t a test names =
     (b i : ℕ) → b < 8 → i < 8 → isLive (ticketAt t a b i .kind) ≡ true → test (8 * b + i) ≡ names (nameOf a b (ticketAt t a b i .number))
 
 -- the names pick no live ticket of another pad
-abbrev Spares : Tables → ℕ → (Name → Bool) → Type 0
+abbrev pub Spares : Tables → ℕ → (Name → Bool) → Type 0
 Spares t a names = (n : Name) → (n .pad ≡ a → ⊥) → isLive (lookup t n .kind) ≡ true → names n ≡ false
 
 module _ (before after marks : List ℕ) (a : ℕ) (c : Cleared (64 * a) 64 (λ p. isMarked marks (p - 64 * a)) before after) where
@@ -113,7 +113,7 @@ module _ (t : Tables) (z : Sized t) (link : Linked t) (a : ℕ) (low : a < 4) wh
 
 -- ---- `also`, x and all under x
 module _ (t : Tables) (z : Sized t) (link : Linked t) (also x : Name) (low : x .pad < 4) (beside : also .pad ≡ x .pad) where
-  under-agrees : Agrees t (x .pad) (underOn t also x) (λ n. eqName n also || atOrUnder t x n)
+  pub under-agrees : Agrees t (x .pad) (underOn t also x) (λ n. eqName n also || atOrUnder t x n)
   unfolding underOn goes
   under-agrees b i b8 i8 l =
       let n : Name = itsName t z link (x .pad) low b i b8 i8 l in
@@ -122,7 +122,7 @@ module _ (t : Tables) (z : Sized t) (link : Linked t) (also x : Name) (low : x .
       ∙ (λ j. name-marks t z link (x .pad) low also beside n h j
       || leads t z link (x .pad) low 64 n h (place t z link (x .pad) low x) x (name-marks t z link (x .pad) low x refl) j)
 
-  under-spares : Spares t (x .pad) (λ n. eqName n also || atOrUnder t x n)
+  pub under-spares : Spares t (x .pad) (λ n. eqName n also || atOrUnder t x n)
   under-spares n ne l =
       let h : Away t z link (x .pad) low n = record { pad = ne; live = l } in
       λ j. name-missed t z link (x .pad) low also beside n h j || far t z link (x .pad) low 64 n h x (name-missed t z link (x .pad) low x refl) j

@@ -57,7 +57,7 @@ fn mark_chains(up: &[u16], also: usize, x: usize, marks: &mut [u8])
 }
 
 // `also`, x and all under x: the chains of x's pad are walked from place to place.
-fn mark_under(image: &[u8], also: Name, x: Name, marks: &mut [u8])
+pub fn mark_under(image: &[u8], also: Name, x: Name, marks: &mut [u8])
     requires { ⌜ (length (now image) ≡ imageSize) × ((x .pad < 4) × (length (now marks) ≡ 64)) ⌝ }
     ensures { λ _. ⌜ now (marks .exit) ≡ marksOf (underOn (decode (now (image .entry))) also x) ⌝ }
 {

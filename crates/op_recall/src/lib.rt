@@ -28,8 +28,8 @@ pub fn allowed(image: &[u8], r: Request) -> Decision
     }
 }
 
-// What was lent is taken back. On the same pad the target and all under it go, with the recall. For another pad the recall goes, and the
-// entry and all below it.
+// What was lent is taken back. On the same pad the target and all under it go, with the recall, and in the dock what was lent away from
+// there. For another pad the recall goes, and the entry and all below it.
 pub fn recall(image: &mut [u8], r: Request) -> Answer
     requires { ⌜ (isImage (now image) ≡ true) × (Ready (decode (now image)) × Asks 3 r) ⌝ }
     ensures { λ a. ⌜ ((store : List ℕ) (sheet : List ℕ) → Serves (serve (stateOf (decode (now (image .entry))) store sheet) r) a (now (image .exit)) store sheet) ⌝ }
@@ -42,7 +42,7 @@ pub fn recall(image: &mut [u8], r: Request) -> Answer
     let k = d.ticket;
     let target = k.other;
     if target.pad == r.pad {
-        op_drop_tickets::drop_under(image, own, target);
+        op_follow::drop_followed(image, own, target);
         return op_outcome::plain(0);
     }
     op_drop_tickets::drop_one(image, own);

@@ -5,25 +5,28 @@
 use Prim.Native.Nat.{ℕ, _≤_, _<_}
 use native.Mathlib.Omega.{arith}
 use mathlib.Core.Path.{_≡_, refl, sym, ap, _∙_, subst}
-use mathlib.Core.Bool.{Bool, true, false}
+use mathlib.Core.Bool.{Bool, true, false, not, _&&_}
 use mathlib.Core.List.{List, map}
 use lib.Dec.{ltb, eqb}
 use lib.ListN.{length, getD, length-map}
 use borrow.Author.Tests.{not-true, ltb-true, ltb-false, lt-ltb, eqb-true, eq-eqb, ne-eqb}
 use Rattle.lists.specs.Tests.{implies}
-use Rattle.lists.specs.Lists.{some, noTwo, allAt}
-use Rattle.lists.proofs.Tests.{Case, pass, fail, case, contradiction, both-ways, not-test, implies-intro, implies-elim}
-use Rattle.lists.proofs.Everywhere.{allAt-intro, allAt-elim, some-intro, some-elim, noTwo-intro, noTwo-elim}
-use Rattle.tables.specs.declared.{Name.Name, Ticket.Ticket, Tables.Tables}
-use Rattle.tables.specs.Names.{free, eqName}
-use Rattle.tables.specs.Order.{everyTicket, someTicket}
+use Rattle.lists.specs.Lists.{all, some, noTwo, allAt}
+use Rattle.lists.proofs.Tests.{Case, pass, fail, case, no-true, contradiction, both-ways, not-test, implies-intro, implies-elim}
+use Rattle.lists.proofs.Everywhere.{all-intro, all-elim, allAt-intro, allAt-elim, some-intro, some-elim, noTwo-intro, noTwo-elim}
+use Rattle.tables.specs.declared.{Name.Name, Ticket.Ticket, Entry.Entry, Tables.Tables}
+use Rattle.tables.specs.Names.{free, noEntry, eqName}
+use Rattle.tables.specs.Lookup.{isNamed, entryIn, entryOf}
+use Rattle.tables.proofs.Keys.{entryKeys, entryLaws}
+use Rattle.lists.proofs.Keyed.{found-somewhere}
+use Rattle.tables.specs.Order.{everyTicket, someTicket, everyEntry, underStore, isRecalled}
 use Rattle.tables.proofs.KindLaws.{live-child, live-recall}
 use Rattle.tables.proofs.NameLaws.{name-eq, eqName-true, eqName-test}
 use Rattle.tables.proofs.Fits.{NameFits}
 use Rattle.image_places.specs.Places.{placed, nameAt, placeIn, Flattened, Numbered}
 use Rattle.image_places.proofs.Laws.{every-placed, placed-every, some-placed, placed-some, place-found, name-place}
 use Rattle.order_lists.specs.Listing.{TicketsListed}
-use Rattle.order_recall_marks.specs.Keys.{keyOf, targetKey, isPlace, isDead, KeysListed, childMarked}
+use Rattle.order_recall_marks.specs.Keys.{keyOf, targetKey, isPlace, isDead, KeysListed, childMarked, nameMarked, hungMarked}
 use Rattle.order_recall_marks.proofs.KeySteps.{deadKey, key-place, key-dead, key-none, key-recall, getD-mapped}
 use Rattle.tables.specs.Kinds.{isLive, isChild, isRecall}
 
@@ -141,6 +144,18 @@ module _ (t : Tables) (numbers : List ℕ) (ix : Numbered t numbers) where
           (omega (arith, d, fa .program, fa .number, fb .program, fb .number))
           (omega (arith, d, fa .program, fa .number, fb .program, fb .number))
           (omega (arith, d, fa .program, fa .number, fb .program, fb .number))
+
+-- a live entry is found by its name
+entry-found : (t : Tables) (i : ℕ) → i < length (t .entries) → getD (t .entries) i noEntry .live ≡ true → entryOf t (getD (t .entries) i noEntry .name) .live ≡ true
+unfolding entryIn isNamed
+entry-found t i b l = found-somewhere entryKeys entryLaws (t .entries) i b l
+
+hang : (live under : Bool) (a b : Bool) → (live ≡ true → a ≡ b) → implies (live && under) a ≡ implies live (implies under b)
+unfolding implies
+hang true true a b e = e refl
+hang true false a b e = refl
+hang false true a b e = refl
+hang false false a b e = refl
 
 module _ (t : Tables) (ks : List Ticket) (lasts numbers : List ℕ) (flat : Flattened t ks lasts) (ix : Numbered t numbers) where
   abbrev pub keys : List ℕ
@@ -268,3 +283,38 @@ module _ (t : Tables) (ks : List Ticket) (lasts numbers : List ℕ) (flat : Flat
           subst (λ (k : Ticket). childMarked marks p k ≡ true) (sym (flat .same p h))
           (implies-intro (isChild (placed t p .kind)) (eqb (getD marks p 0) 1)
           (λ c. told p h ∙ recalls-key p h (live-child (placed t p .kind) c) (every-placed t (ix .sized) isChild (hasRecall t) e p h c)))
+
+  -- ---- "every entry below another has exactly one live recall naming it"
+  module _ (marks : List ℕ) (told : (p : ℕ) → p < 256 → eqb (getD marks p 0) 1 ≡ some (λ key. eqb key p) keys)
+      (granted : (n : Name) → entryOf t n .live ≡ true → placeIn numbers n < 256) where
+    -- a mark at the place of a name tells whether a recall names it
+    marked-recalled : (n : Name) → placeIn numbers n < 256 → nameMarked marks numbers n ≡ isRecalled t n
+    marked-recalled n h =
+        let p = placeIn numbers n in
+        let f = place-found t numbers ix n h in
+        ap (λ (b : Bool). b && eqb (getD marks p 0) 1) (lt-ltb p 256 h) ∙ told p h
+        ∙ both-ways (some (λ key. eqb key p) keys) (isRecalled t n)
+        (λ e. subst (λ (m : Name). isRecalled t m ≡ true) (f .name) (key-recalls p h e))
+        (λ e. recalls-key p h (f .live) (subst (λ (m : Name). isRecalled t m ≡ true) (sym (f .name)) e))
+
+    asks : Entry → Bool
+    asks e = implies (e .live) (implies (not (underStore e)) (isRecalled t (e .name)))
+
+    each-hung : (i : ℕ) → i < length (t .entries) → hungMarked marks numbers i (getD (t .entries) i noEntry) ≡ asks (getD (t .entries) i noEntry)
+    unfolding hungMarked asks
+    each-hung i b = go (case (getD (t .entries) i noEntry .live))
+      where
+        e : Entry
+        e = getD (t .entries) i noEntry
+
+        go : Case (e .live) → implies (e .live && not (underStore e)) (nameMarked marks numbers (e .name))
+            ≡ implies (e .live) (implies (not (underStore e)) (isRecalled t (e .name)))
+        go (fail l) = hang (e .live) (not (underStore e)) _ _ (λ q. no-true (sym l ∙ q))
+        go (pass l) = hang (e .live) (not (underStore e)) _ _ (λ q. marked-recalled (e .name) (granted (e .name) (entry-found t i b l)))
+
+    pub hung-recalled : allAt (hungMarked marks numbers) 0 (t .entries) ≡ everyEntry (λ e. implies (not (underStore e)) (isRecalled t (e .name))) t
+    unfolding everyEntry asks
+    hung-recalled =
+        both-ways (allAt (hungMarked marks numbers) 0 (t .entries)) (all asks (t .entries))
+        (λ h. all-intro noEntry asks (t .entries) (λ i b. sym (each-hung i b) ∙ allAt-elim noEntry (hungMarked marks numbers) (t .entries) h i b))
+        (λ h. allAt-intro noEntry (hungMarked marks numbers) (t .entries) (λ i b. each-hung i b ∙ all-elim noEntry asks (t .entries) h i b))

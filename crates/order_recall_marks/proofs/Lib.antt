@@ -1,3 +1,4 @@
 mod Seen
 mod KeySteps
 pub mod Laws
+pub mod Hung

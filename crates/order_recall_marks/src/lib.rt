@@ -7,9 +7,10 @@ ghost use lib.ListN.{length, replicate};
 ghost use Rattle.lists.specs.Lists.{some, noTwo, allAt};
 ghost use Rattle.tables.specs.Kinds.{isChild, isRecall};
 ghost use Rattle.image.specs.Layout.{imageSize};
-ghost use Rattle.image_read.specs.Places.{ticketsIn};
-ghost use Rattle.order_lists.specs.Listing.{TicketsListed, AllBelow};
-ghost use Rattle.order_recall_marks.specs.Keys.{keyOf, targetKey, isDead, KeysListed, Marked, childMarked};
+ghost use Rattle.image_read.specs.Places.{ticketsIn, entriesIn};
+ghost use Rattle.order_lists.specs.Listing.{TicketsListed, EntriesListed, AllBelow, isHung};
+ghost use Rattle.order_recall_marks.specs.Keys.{keyOf, targetKey, isDead, KeysListed, Marked, childMarked, nameMarked, hungMarked};
+use tables::Entry;
 use tables::Name;
 use tables::Ticket;
 
@@ -119,6 +120,36 @@ pub fn children_marked(children: &[u16], marks: &[u8; 256]) -> bool
         let at = image_places::wide(children[i]);
         i = i + 1;
         if marks[at] != 1 {
+            return false;
+        }
+    }
+    true
+}
+
+// Is the place of the ticket that the entry names marked?
+fn entry_marked(numbers: &[u16], marks: &[u8; 256], e: Entry) -> bool
+    requires { ⌜ length (now numbers) ≡ 256 ⌝ }
+    ensures { λ r. ⌜ r ≡ nameMarked (now (marks .entry)) (now (numbers .entry)) (e .name) ⌝ }
+{
+    let n = e.name;
+    let p = image_places::place_of(numbers, n);
+    if 256 <= p {
+        return false;
+    }
+    marks[p] == 1
+}
+
+// Every entry that hangs under another has its name's place marked.
+pub fn hung_marked(image: &[u8], numbers: &[u16], hung: &[u16], marks: &[u8; 256]) -> bool
+    requires { ⌜ (length (now image) ≡ imageSize) × ((length (now numbers) ≡ 256) × EntriesListed isHung (entriesIn (now image)) (now hung)) ⌝ }
+    ensures { λ r. ⌜ r ≡ allAt (hungMarked (now (marks .entry)) (now (numbers .entry))) 0 (entriesIn (now (image .entry))) ⌝ }
+{
+    let mut i: usize = 0;
+    while i < hung.len() {
+        let at = image_places::wide(hung[i]);
+        i = i + 1;
+        let e = image_read::entry_at(image, at);
+        if !entry_marked(numbers, marks, e) {
             return false;
         }
     }

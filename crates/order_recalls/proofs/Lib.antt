@@ -1,3 +1,4 @@
+pub mod AllNone
 mod OneRecall
 mod Whole
 mod NoRecalls

@@ -1,60 +1,57 @@
 -- T6 in tables without a recall: there is no child.
 use Prim.Native.Nat.{ℕ, _<_}
 use native.Mathlib.Omega.{arith}
-use mathlib.Core.Path.{_≡_, sym, ap, _∙_}
-use mathlib.Core.Bool.{Bool, true, _&&_}
+use mathlib.Core.Path.{_≡_, sym, ap, subst, _∙_}
+use mathlib.Core.Bool.{Bool, true, not, _&&_}
 use mathlib.Core.List.{List}
-use lib.Dec.{eqb}
 use lib.ListN.{length, getD}
-use borrow.Author.Tests.{eqb-true, eqb-false}
-use Rattle.lists.proofs.Tests.{both-ways, cannot-fail, and-r, and-intro}
-use Rattle.tables.specs.declared.{Ticket.Ticket, Tables.Tables}
+use Rattle.lists.proofs.Tests.{and-intro, implies-intro}
+use Rattle.lists.specs.Tests.{implies}
+use Rattle.lists.specs.Lists.{all}
+use Rattle.lists.proofs.Everywhere.{all-intro}
+use Rattle.tables.specs.declared.{Ticket.Ticket, Entry.Entry, Tables.Tables}
 use Rattle.tables.specs.Kinds.{isChild, isRecall}
-use Rattle.tables.specs.Names.{free, eqName}
-use Rattle.tables.specs.Order.{everyTicket, recallOk, t6}
-use Rattle.image_read.specs.Places.{ticketsIn}
-use Rattle.image_places.specs.Places.{placed, nameAt}
-use Rattle.image_places.proofs.Laws.{every-placed, placed-every, placed-some}
-use Rattle.order_lists.specs.Listing.{TicketsListed}
+use Rattle.tables.specs.Names.{free, noEntry}
+use Rattle.tables.specs.Order.{everyEntry, underStore, isRecalled, recallOk, t6}
+use Rattle.image_read.specs.Places.{ticketsIn, entriesIn}
+use Rattle.image_read.proofs.Places.{entries-long}
+use Rattle.image_places.specs.Places.{placed}
+use Rattle.image_places.proofs.Laws.{placed-every}
+use Rattle.order_lists.specs.Listing.{TicketsListed, EntriesListed, isHung}
 use Rattle.order_lists.proofs.Laws.{none-listed}
 use Rattle.order_recall_marks.proofs.Laws.{hasRecall}
 use Rattle.order_recalls.specs.Recalls.{LaidOut}
 
-module _ {t : Tables} {image numbers notes : List ℕ} (ix : LaidOut t image numbers notes) (children recalls : List ℕ)
+module _ {t : Tables} {image numbers notes : List ℕ} (ix : LaidOut t image numbers notes) (children recalls hung : List ℕ)
     (under : TicketsListed (λ k. isChild (k .kind)) (ticketsIn image) children) (back : TicketsListed (λ k. isRecall (k .kind)) (ticketsIn image) recalls)
-    (none : length recalls ≡ 0) where
+    (below : EntriesListed isHung (entriesIn image) hung) (none : length recalls ≡ 0) (childless : length children ≡ 0) (unhung : length hung ≡ 0) where
   no-recall : (p : ℕ) → p < 256 → isRecall (placed t p .kind) ≡ true → ⊥
   no-recall p h r =
       none-listed free (λ k. isRecall (k .kind)) (ticketsIn image) 256 recalls (length recalls) back none p h
       (ap (λ (k : Ticket). isRecall (k .kind)) (ix .flat .same p h) ∙ r)
 
-  pub no-recalls : eqb (length children) 0 ≡ t6 t
-  unfolding t6
-  no-recalls = both-ways (eqb (length children) 0) (each && recalled) to from
-    where
-      each : Bool
-      each = everyTicket isRecall (recallOk t) t
+  no-child : (p : ℕ) → p < 256 → isChild (placed t p .kind) ≡ true → ⊥
+  no-child p h r =
+      none-listed free (λ k. isChild (k .kind)) (ticketsIn image) 256 children (length children) under childless p h
+      (ap (λ (k : Ticket). isChild (k .kind)) (ix .flat .same p h) ∙ r)
 
-      recalled : Bool
-      recalled = everyTicket isChild (hasRecall t) t
+  asks : Entry → Bool
+  asks e = implies (e .live) (implies (not (underStore e)) (isRecalled t (e .name)))
 
-      to : eqb (length children) 0 ≡ true → (each && recalled) ≡ true
-      to e =
-          and-intro (placed-every t (ix .numbered .sized) isRecall (recallOk t) (λ p h r. absurd (no-recall p h r)))
-          (placed-every t (ix .numbered .sized) isChild (hasRecall t)
-          (λ p h c. absurd
-          (none-listed free (λ k. isChild (k .kind)) (ticketsIn image) 256 children (length children) under (eqb-true (length children) 0 e) p h
-          (ap (λ (k : Ticket). isChild (k .kind)) (ix .flat .same p h) ∙ c))))
+  no-hung : (i : ℕ) → i < length (t .entries) → asks (getD (t .entries) i noEntry) ≡ true
+  unfolding asks
+  no-hung i b =
+      implies-intro (getD (t .entries) i noEntry .live) _
+      (λ l. implies-intro (not (underStore (getD (t .entries) i noEntry))) _
+      (λ z. absurd
+      (none-listed noEntry isHung (entriesIn image) 256 hung (length hung) below unhung i (omega (arith, b, ap length (ix .entries), entries-long image))
+      (subst (λ (es : List Entry). isHung (getD es i noEntry) ≡ true) (sym (ix .entries)) (and-intro l z)))))
 
-      -- a child's recall would be one
-      from : (each && recalled) ≡ true → eqb (length children) 0 ≡ true
-      from e = cannot-fail (eqb (length children) 0) (λ f. at (omega (arith, eqb-false (length children) 0 f)))
-        where
-          at : 0 < length children → ⊥
-          at some =
-              let p = getD children 0 0 in
-              let h = under .low 0 some in
-              let c = ap (λ (k : Ticket). isChild (k .kind)) (ix .flat .same p h) in
-              let w = placed-some t (ix .numbered .sized) isRecall (λ m recall. eqName (recall .other) (nameAt p (placed t p)))
-              (every-placed t (ix .numbered .sized) isChild (hasRecall t) (and-r each recalled e) p h (sym c ∙ under .passes 0 some)) in
-              no-recall (w .at) (w .low) (w .kind)
+  pub no-recalls : true ≡ t6 t
+  unfolding t6 everyEntry asks
+  no-recalls =
+      sym
+      (and-intro
+      (and-intro (placed-every t (ix .numbered .sized) isRecall (recallOk t) (λ p h r. absurd (no-recall p h r)))
+      (placed-every t (ix .numbered .sized) isChild (hasRecall t) (λ p h c. absurd (no-child p h c))))
+      (all-intro noEntry asks (t .entries) no-hung))

@@ -199,21 +199,42 @@ module _ {t : Tables} {image numbers notes : List ℕ} (ix : LaidOut t image num
           target = k .other
 
           abbrev given : Bool
-          given = isProgram (target .pad) (target .program) && between 1 (getD (lastsIn image) (8 * target .pad + target .program) 0) (target .number)
+          given =
+              isProgram (target .pad) (target .program) && between 1 (getD (lastsIn image) (8 * target .pad + target .program) 0) (target .number)
+              && not (isChild (getD (ticketsIn image) key free .kind))
 
           abbrev entryFits : Entry → Bool
           entryFits e =
               implies (e .live)
               (eqName (e .parent) (grant .dock) && inside (e .first) (e .count) (e .rights) (grant .first) (grant .count) (grant .rights))
 
-          given-there : given ≡ (isProgram (target .pad) (target .program) && between 1 (lastOf t (target .pad) (target .program)) (target .number))
-          given-there = go (case (isProgram (target .pad) (target .program)))
+          -- the key tells whether the target is a live child
+          child-there : isChild (getD (ticketsIn image) key free .kind) ≡ isChild (lookup t target .kind)
+          child-there = go (case (ltb key 256))
             where
-              go : Case (isProgram (target .pad) (target .program))
-                  → given ≡ (isProgram (target .pad) (target .program) && between 1 (lastOf t (target .pad) (target .program)) (target .number))
+              go : Case (ltb key 256) → isChild (getD (ticketsIn image) key free .kind) ≡ isChild (lookup t target .kind)
+              go (pass e) =
+                  let h = ltb-true key 256 e in
+                  let q : placeIn numbers target ≡ key = key-is-place numbers k (subst (λ (x : ℕ). x < 256) (its-key w) h) ∙ sym (its-key w) in
+                  sym (ap (λ (x : Ticket). isChild (x .kind)) (found-at target (omega (arith, q, h)) ∙ ap (λ (p : ℕ). getD (ticketsIn image) p free) q))
+              go (fail e) =
+                  let h : 256 < key = omega (arith, ltb-false key 256 e, has-key w) in
+                  let q = key-has-none numbers k (subst (λ (x : ℕ). 256 < x) (its-key w) h) in
+                  ap (λ (x : Ticket). isChild (x .kind)) (List·getD-eq-default (ticketsIn image) free (omega (arith, tickets-long image, h)))
+                  ∙ sym (cannot-pass (isChild (lookup t target .kind))
+                  (λ c. omega (arith, q, live-place t numbers (ix .numbered) target (live-child (lookup t target .kind) c))))
+
+          given-there : given
+              ≡ (isProgram (target .pad) (target .program) && between 1 (lastOf t (target .pad) (target .program)) (target .number) && not (isChild (lookup t target .kind)))
+          given-there = go (case (isProgram (target .pad) (target .program))) ∙ ap (λ (b : Bool). bounds && not b) child-there
+            where
+              bounds : Bool
+              bounds = isProgram (target .pad) (target .program) && between 1 (lastOf t (target .pad) (target .program)) (target .number)
+
+              go : Case (isProgram (target .pad) (target .program)) → given ≡ (bounds && not (isChild (getD (ticketsIn image) key free .kind)))
               go (pass e) =
                   let q = is-program (target .pad) (target .program) e in
-                  ap (λ (m : ℕ). isProgram (target .pad) (target .program) && between 1 m (target .number))
+                  ap (λ (m : ℕ). isProgram (target .pad) (target .program) && between 1 m (target .number) && not (isChild (getD (ticketsIn image) key free .kind)))
                   (ix .flat .last (target .pad) (target .program) (omega (arith, q .pad)) (omega (arith, q .program)))
               go (fail e) = rw e
 

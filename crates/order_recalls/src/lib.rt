@@ -3,19 +3,20 @@
 // and whether every child has one.
 ghost use Prim.Native.Nat.{_+_, _*_, _<_};
 ghost use mathlib.Core.Path.{_≡_};
-ghost use mathlib.Core.Bool.{_&&_};
+ghost use mathlib.Core.Bool.{not, _&&_};
 ghost use mathlib.Core.List.{map};
+ghost use lib.Dec.{eqb};
 ghost use lib.ListN.{length, getD};
 ghost use Rattle.lists.specs.Tests.{between};
 ghost use Rattle.tables.specs.declared.Tables.{Tables};
 ghost use Rattle.tables.specs.Kinds.{isChild, isRecall};
-ghost use Rattle.tables.specs.Names.{isProgram};
+ghost use Rattle.tables.specs.Names.{isProgram, free};
 ghost use Rattle.tables.specs.Chains.{ownName};
 ghost use Rattle.tables.specs.Order.{everyTicket, t6};
 ghost use Rattle.image.specs.Layout.{imageSize};
 ghost use Rattle.image_places.specs.Places.{nameAt};
-ghost use Rattle.image_read.specs.Places.{ticketsIn, lastsIn};
-ghost use Rattle.order_lists.specs.Listing.{TicketsListed};
+ghost use Rattle.image_read.specs.Places.{ticketsIn, lastsIn, entriesIn};
+ghost use Rattle.order_lists.specs.Listing.{TicketsListed, EntriesListed, isHung};
 ghost use Rattle.order_recall_marks.specs.Keys.{targetKey};
 ghost use Rattle.order_recalls.specs.Recalls.{LaidOut, recallHolds};
 use tables::Name;
@@ -49,6 +50,22 @@ fn was_given(image: &[u8], n: Name) -> bool
         8 * image_places::wide(n.pad) + image_places::wide(n.program),
     );
     order_rules::is_between(1, last, n.number)
+}
+
+// A name that a recall of another pad may have: it was given, and is no live child.
+fn may_name(image: &[u8], n: Name, key: usize) -> bool
+    requires { ⌜ length (now image) ≡ imageSize ⌝ }
+    ensures { λ r. ⌜ r ≡ (isProgram (n .pad) (n .program) && between 1 (getD (lastsIn (now (image .entry))) (8 * n .pad + n .program) 0) (n .number) && not (isChild (getD (ticketsIn (now (image .entry))) key free .kind))) ⌝ }
+{
+    if !was_given(image, n) {
+        return false;
+    }
+    if 256 <= key {
+        return true;
+    }
+    let k = image_read::ticket_at(image, key);
+    let kind = k.kind;
+    !kind.is_child()
 }
 
 // The place of the entry of a target, by its key; 256 where there is none.
@@ -99,7 +116,7 @@ fn each_holds(
                 return false;
             }
         } else {
-            if !was_given(image, target) {
+            if !may_name(image, target, key) {
                 return false;
             }
             let note = note_of(notes, key);
@@ -114,20 +131,34 @@ fn each_holds(
     true
 }
 
-// T6, in tables whose numbers are distinct (T1) and whose entries are noted at their grants' places. Where there is no recall, there must be
-// no child either.
+// Are all three empty?
+fn all_none(a: usize, b: usize, c: usize) -> bool
+    ensures { λ r. ⌜ r ≡ (eqb a 0 && eqb b 0 && eqb c 0) ⌝ }
+{
+    if a != 0 {
+        return false;
+    }
+    if b != 0 {
+        return false;
+    }
+    c == 0
+}
+
+// T6, in tables whose numbers are distinct (T1) and whose entries are noted at their grants' places. Where there is no recall, no child and no
+// entry under another, there is nothing to test.
 pub fn recalls_ok(
     image: &[u8],
     numbers: &[u16],
     notes: &[u16],
     children: &[u16],
     recalls: &[u16],
+    hung: &[u16],
 ) -> bool
-    requires { ⌜ (length (now image) ≡ imageSize) × ((length (now numbers) ≡ 256) × ((length (now notes) ≡ 256) × (TicketsListed (λ k. isChild (k .kind)) (ticketsIn (now image)) (now children) × TicketsListed (λ k. isRecall (k .kind)) (ticketsIn (now image)) (now recalls)))) ⌝ }
+    requires { ⌜ (length (now image) ≡ imageSize) × ((length (now numbers) ≡ 256) × ((length (now notes) ≡ 256) × ((TicketsListed (λ k. isChild (k .kind)) (ticketsIn (now image)) (now children) × TicketsListed (λ k. isRecall (k .kind)) (ticketsIn (now image)) (now recalls)) × EntriesListed isHung (entriesIn (now image)) (now hung)))) ⌝ }
     ensures { λ r. ⌜ ((t : Tables) → LaidOut t (now (image .entry)) (now (numbers .entry)) (now (notes .entry)) → r ≡ t6 t) ⌝ }
 {
-    if recalls.len() == 0 {
-        return children.len() == 0;
+    if all_none(recalls.len(), children.len(), hung.len()) {
+        return true;
     }
     let mut keys: [usize; 256] = [256; 256];
     order_recall_marks::write_keys(image, numbers, recalls, &mut keys);
@@ -141,5 +172,8 @@ pub fn recalls_ok(
     if !order_recall_marks::dead_once(&keys, recalls) {
         return false;
     }
-    order_recall_marks::children_marked(children, &marks)
+    if !order_recall_marks::children_marked(children, &marks) {
+        return false;
+    }
+    order_recall_marks::hung_marked(image, numbers, hung, &marks)
 }

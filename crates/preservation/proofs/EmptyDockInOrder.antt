@@ -15,7 +15,7 @@ use Rattle.tables.proofs.KindLaws.{live-grant, live-child, live-recall, live-he
 use Rattle.tables.proofs.ByPlace.{ticketAt, entryAt, InRange, name-in-range}
 use Rattle.machine.specs.Empty.{emptied, emptyDock}
 use Rattle.preservation.specs.Rules.{Rules}
-use Rattle.preservation.specs.InOrder.{Shape, Invariant}
+use Rattle.preservation.specs.InOrder.{Shape, InOrder}
 use Rattle.tables.specs.Kinds.{isLive}
 
 abbrev emptyProgram : Program
@@ -98,13 +98,12 @@ empty-rules = record {
   under = λ n l. no-entry-live n l;
   entryChain = λ n l. no-entry-live n l;
   roots = λ n m l. no-entry-live n l;
+  noFar = λ n l. no-ticket-live n (live-recall (lookup emptyTables n .kind) l);
+  lent = λ n l. no-entry-live n l;
 }
 
-pub empty-invariant : Invariant emptyTables
-empty-invariant = record {
-  order = record { shape = empty-shape; rules = empty-rules };
-  noFarChild = λ n r. no-ticket-live n (live-recall (lookup emptyTables n .kind) r);
-}
+pub empty-invariant : InOrder emptyTables
+empty-invariant = record { shape = empty-shape; rules = empty-rules }
 
 -- emptying a store of the right length leaves the tables and the store of the emptied dock
 pub emptying-leaves : (store : List ℕ) → length store ≡ 16384

@@ -11,8 +11,8 @@ use Rattle.tables.specs.Lookup.{lastOf, lookup, entryOf}
 use Rattle.tables.specs.Chains.{ownName, parentBy, parentOf, entryParent}
 use Rattle.tables.specs.Order.{underStore}
 use Rattle.tables.proofs.KindLaws.{live-grant, live-child, live-recall, live-head, live-taken}
-use Rattle.preservation.specs.Rules.{Span, Apart, Given, ChildOk, RecallOk, NearOk, FarOk, Recalled, EntryOk, UnderOk, Ends, Rules, NoFarChild}
-use Rattle.preservation.specs.InOrder.{Shape, Invariant}
+use Rattle.preservation.specs.Rules.{Span, Apart, Given, ChildOk, RecallOk, NearOk, FarOk, Recalled, EntryOk, UnderOk, Ends, Rules}
+use Rattle.preservation.specs.InOrder.{Shape, InOrder}
 use Rattle.preservation.proofs.SheetTests.{apart-sym}
 use Rattle.preservation.proofs.Walks.{ends-kept}
 use Rattle.preservation.proofs.RuleFacts.{entry-head, parent-live}
@@ -41,6 +41,7 @@ pub record NewEntry (tickets : Name → Ticket) (entries : Name → Entry) (n : 
   pub entry : EntryOk (entries n) (tickets n)
   pub under : underStore (entries n) ≡ false → UnderOk (entries n) (entries (entries n .parent))
   pub entryChain : (d : ℕ) × Ends (entryParent entries) n d
+  pub lent : underStore (entries n) ≡ false → Recalled tickets n
   pub roots : underStore (entries n) ≡ true → (m : Name) → entries m .live ≡ true → underStore (entries m) ≡ true → (n ≡ m → ⊥)
       → Apart (entries n .first) (entries n .count) (entries m .first) (entries m .count)
 
@@ -57,7 +58,7 @@ pub record Inserted (tickets tickets′ : Name → Ticket) (entries entries′ :
 
 -- ---- the theorem
 module _ (tickets tickets′ : Name → Ticket) (entries entries′ : Name → Entry) (lasts lasts′ : ℕ → ℕ → ℕ) (rules : Rules tickets entries lasts)
-    (noFar : NoFarChild tickets) (inserted : Inserted tickets tickets′ entries entries′ lasts lasts′) where
+    (inserted : Inserted tickets tickets′ entries entries′ lasts lasts′) where
   wider : (n : Name) → Given lasts n → Given lasts′ n
   wider n g = record { pad = g .pad; program = g .program; low = g .low; high = omega (arith, g .high, inserted .lastsGrow (n .pad) (n .program)) }
 
@@ -78,16 +79,19 @@ module _ (tickets tickets′ : Name → Ticket) (entries entries′ : Name → E
   recall-parent : (n : Name) → isRecall (tickets n .kind) ≡ true → tickets′ (ownName n (tickets n)) ≡ tickets (ownName n (tickets n))
   recall-parent n r = inserted .ticketsKept (ownName n (tickets n)) (live-grant (tickets (ownName n (tickets n)) .kind) (rules .recall n r .grant))
 
+  -- what a recall named before it names after
+  recalled-kept : (n : Name) → Recalled tickets n → Recalled tickets′ n
+  recalled-kept n r =
+      let s : tickets′ (r .by) ≡ tickets (r .by) = inserted .ticketsKept (r .by) (live-recall (tickets (r .by) .kind) (r .recall)) in
+      record { by = r .by; recall = rw s (r .recall); target = rw s (r .target) }
+
   -- an old name's statements, carried over
   module _ (n : Name) (l : isLive (tickets n .kind) ≡ true) where
     same : tickets′ n ≡ tickets n
     same = inserted .ticketsKept n l
 
     old-recalled : isChild (tickets n .kind) ≡ true → Recalled tickets′ n
-    old-recalled c =
-        let r : Recalled tickets n = rules .recalled n c in
-        let s : tickets′ (r .by) ≡ tickets (r .by) = inserted .ticketsKept (r .by) (live-recall (tickets (r .by) .kind) (r .recall)) in
-        record { by = r .by; recall = rw s (r .recall); target = rw s (r .target) }
+    old-recalled c = recalled-kept n (rules .recalled n c)
 
     old-near : isRecall (tickets n .kind) ≡ true → tickets n .other .pad ≡ n .pad → NearOk n (tickets n) (tickets′ (tickets n .other))
     old-near r p =
@@ -106,7 +110,7 @@ module _ (tickets tickets′ : Name → Ticket) (entries entries′ : Name → E
         cannot-pass (isChild (tickets′ (tickets n .other) .kind))
         (λ e.
         let l₀ = inserted .ticketsFresh (tickets n .other) (rules .far n r p) (live-child (tickets′ (tickets n .other) .kind) e) in
-        contradiction (ap (λ (k : Ticket). isChild (k .kind)) (sym (inserted .ticketsKept (tickets n .other) l₀)) ∙ e) (noFar n r p))
+        contradiction (ap (λ (k : Ticket). isChild (k .kind)) (sym (inserted .ticketsKept (tickets n .other) l₀)) ∙ e) (rules .noFar n r p))
 
     old-once : isRecall (tickets n .kind) ≡ true → (m : Name) → isRecall (tickets′ m .kind) ≡ true → tickets n .other ≡ tickets′ m .other
         → (isLive (tickets m .kind) ≡ true) ⊎ NewTicket tickets′ entries′ lasts′ m → n ≡ m
@@ -148,6 +152,7 @@ module _ (tickets tickets′ : Name → Ticket) (entries entries′ : Name → E
       entry = rw (entry-same, inserted .ticketsKept n (live-head (tickets n .kind) (entry-head (rules .entry n l)))) (rules .entry n l);
       under = rw entry-same λ z. rw (inserted .entriesKept (entries n .parent) (rules .under n l z .live)) (rules .under n l z);
       entryChain = (rules .entryChain n l .0, old-entry-chain l (rules .entryChain n l .1));
+      lent = rw entry-same λ z. recalled-kept n (rules .lent n l z);
       roots = rw entry-same λ z m h w ne. old-roots z m h w ne (inserted .entriesNew m h);
     }
 
@@ -180,22 +185,18 @@ module _ (tickets tickets′ : Name → Ticket) (entries entries′ : Name → E
     far = λ n g. at n (live-recall (tickets′ n .kind) g) .far g;
     farEntry = λ n g. at n (live-recall (tickets′ n .kind) g) .farEntry g;
     once = λ n m g. at n (live-recall (tickets′ n .kind) g) .once g m;
+    noFar = λ n g. at n (live-recall (tickets′ n .kind) g) .noFar g;
     entryName = λ n l. at-entry n l .entryName;
     entry = λ n l. at-entry n l .entry;
     under = λ n l. at-entry n l .under;
     entryChain = λ n l. at-entry n l .entryChain;
+    lent = λ n l. at-entry n l .lent;
     roots = λ n m l k z w ne. at-entry n l .roots z m k w ne;
   }
 
-  no-far-child-after-insertion : NoFarChild tickets′
-  no-far-child-after-insertion n r = at n (live-recall (tickets′ n .kind) r) .noFar r
-
 -- the same of tables, with their shape
-pub invariant-inserted : (t t′ : Tables) → Invariant t → Shape t′ → Inserted (lookup t) (lookup t′) (entryOf t) (entryOf t′) (lastOf t) (lastOf t′) → Invariant t′
-invariant-inserted t t′ ok shape inserted = record {
-  order = record {
-    shape = shape;
-    rules = rules-after-insertion (lookup t) (lookup t′) (entryOf t) (entryOf t′) (lastOf t) (lastOf t′) (ok .order .rules) (ok .noFarChild) inserted;
-  };
-  noFarChild = no-far-child-after-insertion (lookup t) (lookup t′) (entryOf t) (entryOf t′) (lastOf t) (lastOf t′) (ok .order .rules) (ok .noFarChild) inserted;
+pub order-inserted : (t t′ : Tables) → InOrder t → Shape t′ → Inserted (lookup t) (lookup t′) (entryOf t) (entryOf t′) (lastOf t) (lastOf t′) → InOrder t′
+order-inserted t t′ ok shape inserted = record {
+  shape = shape;
+  rules = rules-after-insertion (lookup t) (lookup t′) (entryOf t) (entryOf t′) (lastOf t) (lastOf t′) (ok .rules) inserted;
 }

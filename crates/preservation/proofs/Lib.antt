@@ -7,6 +7,7 @@ pub mod Places
 pub mod ChainSteps
 pub mod ByDock
 pub mod Removal
+pub mod LentAway
 pub mod RemovingOperations
 pub mod Insertion
 pub mod NewNames
@@ -24,4 +25,3 @@ pub mod OrderPassesTest
 pub mod EmptyDockInOrder
 pub mod StepKeepsOrder
 pub mod SheetKept
-pub mod WhyNoFarChild

@@ -2,7 +2,7 @@
 -- the test is the proposition.
 use Prim.Native.Nat.{ℕ, _<_}
 use mathlib.Core.Path.{_≡_, sym, ap, subst}
-use mathlib.Core.Bool.{true, not, _&&_, cond}
+use mathlib.Core.Bool.{true, false, not, _&&_, cond}
 use lib.Dec.{eqb}
 use lib.ListN.{length}
 use borrow.Author.Tests.{eqb-true, eqb-false, eq-eqb, ne-eqb, not-true}
@@ -17,12 +17,12 @@ use Rattle.tables.specs.Names.{nameOf, eqName, free, noProgram, noPad}
 use Rattle.tables.specs.Lookup.{padAt, programAt, ticketsOf, lastOf, lookup, isNamed, entryIn, entryOf}
 use Rattle.tables.specs.Chains.{ownName, entryParent, chainRoot}
 use Rattle.tables.specs.Sheets.{apart}
-use Rattle.tables.specs.Order.{someTicket, numbersOk, t1, spanOk, t2, parentOk, childOk, t3, t4, entryNamesOk, underStore, grantOk, parentEntryOk, entryOk, rootsOk, t5, recallParentOk, isChildOf, farTargetOk, targetOk, recallOk, t6, inOrder, noFarChild}
+use Rattle.tables.specs.Order.{isRecalled, numbersOk, t1, spanOk, t2, parentOk, childOk, t3, t4, entryNamesOk, underStore, grantOk, parentEntryOk, entryOk, rootsOk, t5, recallParentOk, isChildOf, farTargetOk, targetOk, recallOk, t6, inOrder}
 use Rattle.tables.proofs.KindLaws.{live-grant, live-child, live-recall, live-head, live-taken, child-grant}
 use Rattle.tables.proofs.NameLaws.{eqName-true, eqName-test, program-possible}
 use Rattle.tables.proofs.Keys.{ticketKeys, entryKeys, ticketLaws, entryLaws}
 use Rattle.tables.proofs.ByPlace.{ticketAt}
-use Rattle.preservation.specs.Rules.{Given, ChildOk, RecallOk, NearOk, FarOk, Recalled, EntryOk, UnderOk, NoFarChild}
+use Rattle.preservation.specs.Rules.{Given, ChildOk, RecallOk, NearOk, FarOk, Recalled, EntryOk, UnderOk}
 use Rattle.preservation.specs.InOrder.{InOrder}
 use Rattle.preservation.proofs.SheetTests.{inside-test, span-test, apart-test}
 use Rattle.preservation.proofs.Walks.{end-good}
@@ -53,10 +53,12 @@ parent-entry-test : (e p : Entry) → UnderOk e p → parentEntryOk e p ≡ true
 unfolding parentEntryOk
 parent-entry-test e p u = and-intro (and-intro (u .live) (u .pass)) (inside-test _ _ _ _ _ _ (u .inside))
 
-far-test : (t : Tables) (x : Name) (p : Ticket) (e : Entry) → Given (lastOf t) x → (e .live ≡ true → FarOk p e) → farTargetOk t x p e ≡ true
+far-test : (t : Tables) (x : Name) (p : Ticket) (e : Entry) → Given (lastOf t) x → (e .live ≡ true → FarOk p e) → isChild (lookup t x .kind) ≡ false
+    → farTargetOk t x p e ≡ true
 unfolding farTargetOk
-far-test t x p e g f =
-    and-intro (and-intro (program-possible (x .pad) (x .program) (g .pad) (g .program)) (between-test 1 _ (x .number) (g .low) (g .high)))
+far-test t x p e g f c =
+    and-intro (and-intro (and-intro (program-possible (x .pad) (x .program) (g .pad) (g .program)) (between-test 1 _ (x .number) (g .low) (g .high)))
+    (not-test (isChild (lookup t x .kind)) c))
     (implies-intro (e .live) _ (λ l. and-intro (eqName-test (e .parent) (p .dock) (f l .parent)) (inside-test _ _ _ _ _ _ (f l .inside))))
 
 module _ (t : Tables) (ok : InOrder t) where
@@ -148,7 +150,7 @@ module _ (t : Tables) (ok : InOrder t) where
           rw p (and-intro (k .child) (eqName-test _ _ (k .parent)))
       go (fail p) =
           let away = eqb-false (lookup t n .other .pad) (n .pad) p in
-          rw p (far-test t (lookup t n .other) (lookup t (ownName n (lookup t n))) (entryOf t (lookup t n .other)) (ok .rules .far n h away) (ok .rules .farEntry n h away))
+          rw p (far-test t (lookup t n .other) (lookup t (ownName n (lookup t n))) (entryOf t (lookup t n .other)) (ok .rules .far n h away) (ok .rules .farEntry n h away) (ok .rules .noFar n h away))
 
   recall-test : (n : Name) → isRecall (lookup t n .kind) ≡ true → recallOk t n (lookup t n) ≡ true
   unfolding recallOk recallParentOk
@@ -159,27 +161,25 @@ module _ (t : Tables) (ok : InOrder t) where
       (λ m k. implies-intro (eqName (lookup t m .other) (lookup t n .other)) (eqName m n)
       (λ w. eqName-test m n (ok .rules .once m n k h (eqName-true (lookup t m .other) (lookup t n .other) w)))))
 
-  recalled-test : (n : Name) → isChild (lookup t n .kind) ≡ true → someTicket isRecall (λ m recall. eqName (recall .other) n) t ≡ true
-  recalled-test n h =
-      let r : Recalled (lookup t) n = ok .rules .recalled n h in
+  recalled-test : (n : Name) → Recalled (lookup t) n → isRecalled t n ≡ true
+  recalled-test n r =
       some-ticket-intro t (ok .shape .sized) isRecall live-recall (λ m recall. eqName (recall .other) n) (r .by) (r .recall)
       (eqName-test (lookup t (r .by) .other) n (r .target))
+
+  lent-test : (n : Name) → entryOf t n .live ≡ true → implies (not (underStore (entryOf t n))) (isRecalled t (entryOf t n .name)) ≡ true
+  lent-test n l =
+      implies-intro (not (underStore (entryOf t n))) _
+      (λ z. subst (λ (m : Name). isRecalled t m ≡ true) (sym (ok .rules .entryName n l))
+      (recalled-test n (ok .rules .lent n l (not-true (underStore (entryOf t n)) z))))
 
   t6-test : t6 t ≡ true
   unfolding t6
   t6-test =
-      and-intro (every-ticket-intro t (ok .shape) isRecall live-recall (recallOk t) recall-test)
-      (every-ticket-intro t (ok .shape) isChild live-child (λ n k. someTicket isRecall (λ m recall. eqName (recall .other) n) t) recalled-test)
+      and-intro
+      (and-intro (every-ticket-intro t (ok .shape) isRecall live-recall (recallOk t) recall-test)
+      (every-ticket-intro t (ok .shape) isChild live-child (λ n k. isRecalled t n) (λ n h. recalled-test n (ok .rules .recalled n h))))
+      (every-entry-intro t (ok .shape) (λ e. implies (not (underStore e)) (isRecalled t (e .name))) lent-test)
 
   pub order-passes-test : inOrder t ≡ true
   unfolding inOrder
   order-passes-test = and-intro (and-intro (and-intro (and-intro (and-intro t1-test t2-test) t3-test) t4-test) t5-test) t6-test
-
-  -- and what the theorems carry beside it
-  pub no-far-child-passes-test : NoFarChild (lookup t) → noFarChild t ≡ true
-  unfolding noFarChild
-  no-far-child-passes-test noFar =
-      every-ticket-intro t (ok .shape) isRecall live-recall (λ n k. implies (not (eqb (k .other .pad) (n .pad))) (not (isChild (lookup t (k .other) .kind))))
-      (λ n h. implies-intro (not (eqb (lookup t n .other .pad) (n .pad))) _
-      (λ w. not-test (isChild (lookup t (lookup t n .other) .kind))
-      (noFar n h (eqb-false (lookup t n .other .pad) (n .pad) (not-true (eqb (lookup t n .other .pad) (n .pad)) w)))))

@@ -21,17 +21,17 @@ use Rattle.machine.specs.declared.Request.{Request}
 use Rattle.machine.specs.State.{askedName}
 use Rattle.machine.specs.Pass.{passTables}
 use Rattle.preservation.specs.Rules.{Span, Inside, Given, NearOk, FarOk, UnderOk, Ends, up}
-use Rattle.preservation.specs.InOrder.{Invariant}
+use Rattle.preservation.specs.InOrder.{InOrder}
 use Rattle.preservation.proofs.SheetTests.{inside-trans}
 use Rattle.preservation.proofs.Walks.{ends-kept}
 use Rattle.preservation.proofs.RuleFacts.{grant-named, parent-live}
-use Rattle.preservation.proofs.Insertion.{NewTicket, NewEntry, Inserted, invariant-inserted}
+use Rattle.preservation.proofs.Insertion.{NewTicket, NewEntry, Inserted, order-inserted}
 use Rattle.preservation.proofs.ChainSteps.{has-chain, dock-named, within-entry}
 use Rattle.preservation.proofs.NewNames.{past-given, not-past, not-past-entry, new-head}
 use Rattle.preservation.proofs.Passing.{MayPass, recallName, grantName, newRecall, newChild, newReceived, newEntry, PassEffect, pass-near, pass-near-entries, pass-far, pass-far-entry}
 use Rattle.tables.specs.Kinds.{isLive, isChild, isRecall}
 
-module _ (t : Tables) (ok : Invariant t) (r : Request) (may : MayPass t r) where
+module _ (t : Tables) (ok : InOrder t) (r : Request) (may : MayPass t r) where
   abbrev a : Name
   a = askedName r
 
@@ -48,7 +48,7 @@ module _ (t : Tables) (ok : Invariant t) (r : Request) (may : MayPass t r) where
   t′ = passTables t r
 
   span : Span (k .first + r .first) (r .count) (rightsOf (r .rights))
-  span = record { some = may .some; fits = omega (arith, may .fit, ok .order .rules .span a (may .grant) .fits); right = may .right; rights = may .rights }
+  span = record { some = may .some; fits = omega (arith, may .fit, ok .rules .span a (may .grant) .fits); right = may .right; rights = may .rights }
 
   part : Inside (k .first + r .first) (r .count) (rightsOf (r .rights)) (k .first) (k .count) (k .rights)
   part = record { from = omega arith; to = omega (arith, may .fit); rights = may .within }
@@ -56,7 +56,7 @@ module _ (t : Tables) (ok : Invariant t) (r : Request) (may : MayPass t r) where
   -- ---- what both kinds of pass have in common; c is the new grant
   module _ (c : Ticket) (plain : isRecall (c .kind) ≡ false) (own : c .number ≡ y .number) (effect : PassEffect t t′ r c) where
     kept : (n : Name) → isLive (lookup t n .kind) ≡ true → lookup t′ n ≡ lookup t n
-    kept n l = effect .tickets n (not-past t (ok .order) x refl n l) (not-past t (ok .order) y refl n l)
+    kept n l = effect .tickets n (not-past t ok x refl n l) (not-past t ok y refl n l)
 
     at-a : lookup t′ a ≡ k
     at-a = kept a (live-grant (k .kind) (may .grant))
@@ -86,9 +86,9 @@ module _ (t : Tables) (ok : Invariant t) (r : Request) (may : MayPass t r) where
       where
         go : Case (eqb (lookup t m .other .pad) (m .pad)) → ⊥
         go (pass p) =
-            not-past t (ok .order) y refl (lookup t m .other)
-            (live-child (lookup t (lookup t m .other) .kind) (ok .order .rules .near m h (eqb-true (lookup t m .other .pad) (m .pad) p) .child)) e
-        go (fail p) = past-given t (ok .order) y refl (rw e at (ok .order .rules .far m h (eqb-false (lookup t m .other .pad) (m .pad) p)))
+            not-past t ok y refl (lookup t m .other)
+            (live-child (lookup t (lookup t m .other) .kind) (ok .rules .near m h (eqb-true (lookup t m .other .pad) (m .pad) p) .child)) e
+        go (fail p) = past-given t ok y refl (rw e at (ok .rules .far m h (eqb-false (lookup t m .other .pad) (m .pad) p)))
 
     once-x : (m : Name) → isRecall (lookup t′ m .kind) ≡ true → y ≡ lookup t′ m .other → Case (eqName m x) → Case (eqName m y) → x ≡ m
     once-x m h e (pass p) _ = sym (eqName-true m x p)
@@ -123,14 +123,14 @@ module _ (t : Tables) (ok : Invariant t) (r : Request) (may : MayPass t r) where
         }
 
     not-given : (n z : Name) → z .number ≡ suc (lastOf t (z .pad) (z .program)) → Given (lastOf t) n → n ≡ z → ⊥
-    not-given n z past g q = past-given t (ok .order) z past (subst (Given (lastOf t)) q g)
+    not-given n z past g q = past-given t ok z past (subst (Given (lastOf t)) q g)
 
     inserted : NewTicket (lookup t′) (entryOf t′) (lastOf t′) x → NewTicket (lookup t′) (entryOf t′) (lastOf t′) y
         → ((n : Name) → entryOf t′ n .live ≡ true → (entryOf t n .live ≡ true) ⊎ NewEntry (lookup t′) (entryOf t′) n)
         → Inserted (lookup t) (lookup t′) (entryOf t) (entryOf t′) (lastOf t) (lastOf t′)
     inserted new-x new-y new-entries = record {
       ticketsKept = kept;
-      entriesKept = λ n l. effect .entries n (not-past-entry t (ok .order) y refl n l);
+      entriesKept = λ n l. effect .entries n (not-past-entry t ok y refl n l);
       lastsGrow = grown;
       ticketsNew = λ n l. new n l (case (eqName n x)) (case (eqName n y));
       entriesNew = new-entries;
@@ -147,7 +147,7 @@ module _ (t : Tables) (ok : Invariant t) (r : Request) (may : MayPass t r) where
   -- ---- on the same pad
   module _ (same : r .pad ≡ r .topad) where
     near : PassEffect t t′ r (newChild t r)
-    near = pass-near t (ok .order) r may same
+    near = pass-near t ok r may same
 
     near-kept : (n : Name) → isLive (lookup t n .kind) ≡ true → lookup t′ n ≡ lookup t n
     near-kept = kept (newChild t r) refl refl near
@@ -161,13 +161,13 @@ module _ (t : Tables) (ok : Invariant t) (r : Request) (may : MayPass t r) where
     child-chain : (d : ℕ) × Ends (parentOf (lookup t′)) y d
     child-chain =
         let l = live-grant (k .kind) (may .grant) in
-        let c = has-chain t (ok .order) a l in
+        let c = has-chain t ok a l in
         let up-y : parentOf (lookup t′) y ≡ a = ap (λ (z : Ticket). parentBy (z .kind) y z) (near .grant) in
         let old : Ends (parentOf (lookup t′)) a (c .0)
-        = ends-kept (λ m. isLive (lookup t m .kind) ≡ true) (λ m h. parent-live (lookup t) (entryOf t) (lastOf t) (ok .order .rules) m)
+        = ends-kept (λ m. isLive (lookup t m .kind) ≡ true) (λ m h. parent-live (lookup t) (entryOf t) (lastOf t) (ok .rules) m)
         (λ m h. ap (λ (z : Ticket). parentBy (z .kind) m z) (near-kept m h)) l (c .1) in (
           suc (c .0),
-          up {n = y} {d = c .0} (ap isNone up-y ∙ grant-named (lookup t) (entryOf t) (lastOf t) (ok .order .rules) a (may .grant))
+          up {n = y} {d = c .0} (ap isNone up-y ∙ grant-named (lookup t) (entryOf t) (lastOf t) (ok .rules) a (may .grant))
               (subst (λ (m : Name). Ends (parentOf (lookup t′)) m (c .0)) (sym up-y) old),
         )
 
@@ -196,21 +196,21 @@ module _ (t : Tables) (ok : Invariant t) (r : Request) (may : MayPass t r) where
         other-program : r .program ≡ r .toprogram → ⊥
         other-program e = program-apart (r .pad) (r .program) (r .topad) (r .toprogram) (may .differ) same e
 
-    near-keeps : Invariant t′
+    near-keeps : InOrder t′
     near-keeps =
-        invariant-inserted t t′ ok (near .shape)
-        (inserted (newChild t r) refl refl near near-x near-y (λ n l. inl (rw (pass-near-entries t (ok .order) r may same n) at l)))
+        order-inserted t t′ ok (near .shape)
+        (inserted (newChild t r) refl refl near near-x near-y (λ n l. inl (rw (pass-near-entries t ok r may same n) at l)))
 
   -- ---- to another pad
   module _ (away : r .pad ≡ r .topad → ⊥) where
     far : PassEffect t t′ r (newReceived t r)
-    far = pass-far t (ok .order) r may away
+    far = pass-far t ok r may away
 
     at-entry : entryOf t′ y ≡ newEntry t r
-    at-entry = pass-far-entry t (ok .order) r may away
+    at-entry = pass-far-entry t ok r may away
 
     named : isNone (k .dock) ≡ false
-    named = dock-named t (ok .order) a (may .grant)
+    named = dock-named t ok a (may .grant)
 
     known : entryOf t (k .dock) .live ≡ true
     known = may .known away
@@ -227,24 +227,24 @@ module _ (t : Tables) (ok : Invariant t) (r : Request) (may : MayPass t r) where
 
     -- the entry of the ticket's dock name contains the ticket, and so the new entry
     entry-contains : Inside (k .first) (k .count) (k .rights) (entryOf t (k .dock) .first) (entryOf t (k .dock) .count) (entryOf t (k .dock) .rights)
-    entry-contains = within-entry t (ok .order) a (may .grant) known
+    entry-contains = within-entry t ok a (may .grant) known
 
     entry-may : canPass (entryOf t (k .dock) .rights) ≡ true
     entry-may = within-trans passOn (k .rights) (entryOf t (k .dock) .rights) (may .may) (entry-contains .rights)
 
     under-dock : UnderOk (newEntry t r) (entryOf t′ (k .dock))
     under-dock =
-        rw (far .entries (k .dock) (not-past-entry t (ok .order) y refl (k .dock) known))
+        rw (far .entries (k .dock) (not-past-entry t ok y refl (k .dock) known))
         (record { live = known; pass = entry-may; inside = inside-trans part entry-contains })
 
     -- the entry's chain is that of the dock name's entry and one link more
     entry-chain : (d : ℕ) × Ends (entryParent (entryOf t′)) y d
     entry-chain =
-        let c = ok .order .rules .entryChain (k .dock) known in
+        let c = ok .rules .entryChain (k .dock) known in
         let up-y : entryOf t′ y .parent ≡ k .dock = ap (λ (z : Entry). z .parent) at-entry in
         let old : Ends (entryParent (entryOf t′)) (k .dock) (c .0)
-        = ends-kept (λ m. entryOf t m .live ≡ true) (λ m l z. ok .order .rules .under m l z .live)
-        (λ m l. ap (λ (z : Entry). z .parent) (far .entries m (not-past-entry t (ok .order) y refl m l))) known (c .1) in (
+        = ends-kept (λ m. entryOf t m .live ≡ true) (λ m l z. ok .rules .under m l z .live)
+        (λ m l. ap (λ (z : Entry). z .parent) (far .entries m (not-past-entry t ok y refl m l))) known (c .1) in (
           suc (c .0),
           up {n = y} {d = c .0} (ap isNone up-y ∙ named) (subst (λ (m : Name). Ends (entryParent (entryOf t′)) m (c .0)) (sym up-y) old),
         )
@@ -257,6 +257,7 @@ module _ (t : Tables) (ok : Invariant t) (r : Request) (may : MayPass t r) where
           (record { taken = λ z. contradiction z named; received = λ z. refl; first = refl; count = refl; rights = refl });
       under = rw at-entry λ z. under-dock;
       entryChain = entry-chain;
+      lent = λ z. record { by = x; recall = rw (far .recall); target = rw (far .recall) };
       roots = λ z. contradiction (rw at-entry at z) named;
     }
 
@@ -264,13 +265,13 @@ module _ (t : Tables) (ok : Invariant t) (r : Request) (may : MayPass t r) where
     new-entries n l (pass h) = inr (rw (eqName-true n y h) new-entry-y)
     new-entries n l (fail h) = inl (rw (far .entries n (eqName-ne n y h)) at l)
 
-    far-keeps : Invariant t′
+    far-keeps : InOrder t′
     far-keeps =
-        invariant-inserted t t′ ok (far .shape) (inserted (newReceived t r) refl refl far far-x far-y (λ n l. new-entries n l (case (eqName n y))))
+        order-inserted t t′ ok (far .shape) (inserted (newReceived t r) refl refl far far-x far-y (λ n l. new-entries n l (case (eqName n y))))
 
-  pub pass-keeps : Invariant t′
+  pub pass-keeps : InOrder t′
   pass-keeps = go (case (eqb (r .pad) (r .topad)))
     where
-      go : Case (eqb (r .pad) (r .topad)) → Invariant t′
+      go : Case (eqb (r .pad) (r .topad)) → InOrder t′
       go (pass h) = near-keeps (eqb-true (r .pad) (r .topad) h)
       go (fail h) = far-keeps (eqb-false (r .pad) (r .topad) h)

@@ -1,7 +1,7 @@
 -- The removal theorem: tickets and entries are removed by name, and what is left keeps the rules, if what goes is closed. It speaks of
 -- maps only. Recall, give back and the drop on 12 are instances (RemovingOperations.antt).
 use Prim.Native.Nat.{ℕ}
-use mathlib.Core.Path.{_≡_, refl, sym, ap, _∙_}
+use mathlib.Core.Path.{_≡_, refl, sym, ap, _∙_, subst}
 use mathlib.Core.Bool.{Bool, true, false, cond}
 use lib.Dec.{eqb}
 use borrow.Author.Tests.{eqb-true, eqb-false}
@@ -10,10 +10,10 @@ use Rattle.tables.specs.declared.{Name.Name, Ticket.Ticket, Entry.Entry}
 use Rattle.tables.specs.Names.{isNone, free, noEntry}
 use Rattle.tables.specs.Chains.{ownName, parentBy, parentOf, entryParent}
 use Rattle.tables.specs.Order.{underStore}
-use Rattle.tables.proofs.KindLaws.{live-grant, live-child, live-recall, live-head, live-taken}
-use Rattle.preservation.specs.Rules.{Given, ChildOk, RecallOk, NearOk, FarOk, Recalled, EntryOk, UnderOk, Ends, Rules, NoFarChild}
+use Rattle.tables.proofs.KindLaws.{live-grant, live-child, live-recall, live-head, live-taken, child-head}
+use Rattle.preservation.specs.Rules.{Given, ChildOk, RecallOk, NearOk, FarOk, Recalled, EntryOk, UnderOk, Ends, Rules}
 use Rattle.preservation.proofs.Walks.{ends-kept}
-use Rattle.preservation.proofs.RuleFacts.{child-up, recall-up, child-linked, recall-linked}
+use Rattle.preservation.proofs.RuleFacts.{entry-head, child-up, recall-up, child-linked, recall-linked}
 use Rattle.tables.specs.Kinds.{isLive, isTaken, isChild, isRecall}
 
 -- what is live after a removal was not picked and is what it was
@@ -27,29 +27,19 @@ entry-survives true d e l = no-true (ap (λ (x : Entry). x .live) (sym e) ∙ l)
 
 -- ---- what may go together
 -- `gone` picks tickets and `cut` entries by name. The set is closed: what is under a ticket that goes goes too; a child goes exactly
--- with its recall; the entry of a grant that goes is cut; what is below an entry that is cut is cut; a taken grant goes with its entry.
+-- with its recall; the entry that a recall of another pad's ticket names is cut where the recall goes; the entry of a grant that goes is cut; what is below an entry that is cut is cut; a taken grant goes with its entry.
 pub record Closure (tickets : Name → Ticket) (entries : Name → Entry) (gone cut : Name → Bool) : Type 0 where
   pub down : (n : Name) → isNone (parentOf tickets n) ≡ false → gone (parentOf tickets n) ≡ true → gone n ≡ true
   pub pair : (r : Name) → isRecall (tickets r .kind) ≡ true → tickets r .other .pad ≡ r .pad → gone (tickets r .other) ≡ gone r
+  pub told : (r : Name) → isRecall (tickets r .kind) ≡ true → (tickets r .other .pad ≡ r .pad → ⊥) → gone r ≡ true
+      → entries (tickets r .other) .live ≡ true → cut (tickets r .other) ≡ true
   pub lost : (n : Name) → entries n .live ≡ true → gone n ≡ true → cut n ≡ true
   pub sink : (n : Name) → entries n .live ≡ true → underStore (entries n) ≡ false → cut (entries n .parent) ≡ true → cut n ≡ true
   pub both : (n : Name) → isTaken (tickets n .kind) ≡ true → cut n ≡ true → gone n ≡ true
 
--- the recall of a child is on the child's own pad
-recalled-near : (tickets : Name → Ticket) → NoFarChild tickets → (n : Name) → isChild (tickets n .kind) ≡ true → (r : Recalled tickets n)
-    → tickets (r .by) .other .pad ≡ r .by .pad
-recalled-near tickets noFar n c r = go (case (eqb (tickets (r .by) .other .pad) (r .by .pad)))
-  where
-    go : Case (eqb (tickets (r .by) .other .pad) (r .by .pad)) → tickets (r .by) .other .pad ≡ r .by .pad
-    go (pass e) = eqb-true (tickets (r .by) .other .pad) (r .by .pad) e
-    go (fail e) =
-        no-true
-        (sym (noFar (r .by) (r .recall) (eqb-false (tickets (r .by) .other .pad) (r .by .pad) e))
-        ∙ ap (λ (m : Name). isChild (tickets m .kind)) (r .target) ∙ c)
-
 -- ---- the theorem
 module _ (tickets tickets′ : Name → Ticket) (entries entries′ : Name → Entry) (lasts : ℕ → ℕ → ℕ) (rules : Rules tickets entries lasts)
-    (noFar : NoFarChild tickets) (gone cut : Name → Bool) (closure : Closure tickets entries gone cut)
+    (gone cut : Name → Bool) (closure : Closure tickets entries gone cut)
     (tickets-gone : (n : Name) → tickets′ n ≡ cond (gone n) free (tickets n))
     (entries-cut : (n : Name) → entries′ n ≡ cond (cut n) noEntry (entries n)) where
   ticket-same : (n : Name) → gone n ≡ false → tickets′ n ≡ tickets n
@@ -116,11 +106,22 @@ module _ (tickets tickets′ : Name → Ticket) (entries entries′ : Name → E
       same : (m : Name) → gone m ≡ false → parentOf tickets′ m ≡ parentOf tickets m
       same m e = ap (λ (k : Ticket). parentBy (k .kind) m k) (ticket-same m e)
 
+  -- the recall of a child is on the child's own pad
+  recalled-near : (n : Name) → isChild (tickets n .kind) ≡ true → (r : Recalled tickets n) → tickets (r .by) .other .pad ≡ r .by .pad
+  recalled-near n c r = go (case (eqb (tickets (r .by) .other .pad) (r .by .pad)))
+    where
+      go : Case (eqb (tickets (r .by) .other .pad) (r .by .pad)) → tickets (r .by) .other .pad ≡ r .by .pad
+      go (pass e) = eqb-true (tickets (r .by) .other .pad) (r .by .pad) e
+      go (fail e) =
+          no-true
+          (sym (rules .noFar (r .by) (r .recall) (eqb-false (tickets (r .by) .other .pad) (r .by .pad) e))
+          ∙ ap (λ (m : Name). isChild (tickets m .kind)) (r .target) ∙ c)
+
   recalled-after : (n : Name) → isChild (tickets′ n .kind) ≡ true → Recalled tickets′ n
   recalled-after n c =
       let c₀ : isChild (tickets n .kind) ≡ true = rw (child-kept n c) at c in
       let r : Recalled tickets n = rules .recalled n c₀ in
-      let p : gone (tickets (r .by) .other) ≡ gone (r .by) = closure .pair (r .by) (r .recall) (recalled-near tickets noFar n c₀ r) in
+      let p : gone (tickets (r .by) .other) ≡ gone (r .by) = closure .pair (r .by) (r .recall) (recalled-near n c₀ r) in
       let s : gone (r .by) ≡ false = sym p ∙ ap gone (r .target) ∙ child-stays n c in
       record { by = r .by; recall = rw (ticket-same (r .by) s) (r .recall); target = rw (ticket-same (r .by) s) (r .target) }
 
@@ -172,6 +173,39 @@ module _ (tickets tickets′ : Name → Ticket) (entries entries′ : Name → E
       same : (m : Name) → (cut m ≡ false) × (entries m .live ≡ true) → entries′ m .parent ≡ entries m .parent
       same m h = ap (λ (e : Entry). e .parent) (entry-same m (h .0))
 
+  -- the recall of an entry under another is on another pad than the entry: it would name a child else, and an entry's grant is none
+  lent-far : (n : Name) → entries n .live ≡ true → (r : Recalled tickets n) → tickets (r .by) .other .pad ≡ r .by .pad → ⊥
+  lent-far n l r p =
+      child-head (tickets n .kind)
+      (subst (λ (m : Name). isChild (tickets m .kind) ≡ true) (r .target) (rules .near (r .by) (r .recall) p .child))
+      (entry-head (rules .entry n l))
+
+  lent-after : (n : Name) → entries′ n .live ≡ true → underStore (entries′ n) ≡ false → Recalled tickets′ n
+  lent-after n l z =
+      let l₀ : entries n .live ≡ true = rw (entry-kept n l) at l in
+      let z₀ : underStore (entries n) ≡ false = rw (entry-kept n l) at z in
+      let r : Recalled tickets n = rules .lent n l₀ z₀ in
+      let s : gone (r .by) ≡ false
+      = not-pass
+      (λ g. subst (λ (m : Name). cut m ≡ true) (r .target)
+      (closure .told (r .by) (r .recall) (lent-far n l₀ r) g (subst (λ (m : Name). entries m .live ≡ true) (sym (r .target)) l₀)))
+      (entry-stays n l) in
+      record { by = r .by; recall = rw (ticket-same (r .by) s) (r .recall); target = rw (ticket-same (r .by) s) (r .target) }
+
+  noFar-after : (n : Name) → isRecall (tickets′ n .kind) ≡ true → (tickets′ n .other .pad ≡ n .pad → ⊥)
+      → isChild (tickets′ (tickets′ n .other) .kind) ≡ false
+  noFar-after n r p = go (case (gone (tickets n .other)))
+    where
+      r₀ : isRecall (tickets n .kind) ≡ true
+      r₀ = rw (recall-kept n r) at r
+
+      before : isChild (tickets (tickets n .other) .kind) ≡ false
+      before = rules .noFar n r₀ (rw (recall-kept n r) at p)
+
+      go : Case (gone (tickets n .other)) → isChild (tickets′ (tickets′ n .other) .kind) ≡ false
+      go (pass e) = let z : tickets′ (tickets n .other) ≡ free = tickets-gone (tickets n .other) ∙ rw e in rw (recall-kept n r) (rw z)
+      go (fail e) = rw (recall-kept n r) (rw (ticket-same (tickets n .other) e) before)
+
   pub rules-after-removal : Rules tickets′ entries′ lasts
   rules-after-removal = record {
     named = named-after;
@@ -180,6 +214,8 @@ module _ (tickets tickets′ : Name → Ticket) (entries entries′ : Name → E
     child = child-after;
     chain = chain-after;
     recalled = recalled-after;
+    noFar = noFar-after;
+    lent = lent-after;
     dock = λ n h. let s = ticket-kept n (live-head (tickets′ n .kind) h) in rw s (rules .dock n (rw s at h));
     taken = λ n h.
         let s = ticket-kept n (live-taken (tickets′ n .kind) h) in
@@ -202,16 +238,3 @@ module _ (tickets tickets′ : Name → Ticket) (entries entries′ : Name → E
         let b = entry-kept m k in
         rw (a, b) (rules .roots n m (rw a at l) (rw b at k) (rw a at z) (rw b at w) ne);
   }
-
-  pub no-far-child-after-removal : NoFarChild tickets′
-  no-far-child-after-removal n r p = go (case (gone (tickets n .other)))
-    where
-      r₀ : isRecall (tickets n .kind) ≡ true
-      r₀ = rw (recall-kept n r) at r
-
-      before : isChild (tickets (tickets n .other) .kind) ≡ false
-      before = noFar n r₀ (rw (recall-kept n r) at p)
-
-      go : Case (gone (tickets n .other)) → isChild (tickets′ (tickets′ n .other) .kind) ≡ false
-      go (pass e) = let z : tickets′ (tickets n .other) ≡ free = tickets-gone (tickets n .other) ∙ rw e in rw (recall-kept n r) (rw z)
-      go (fail e) = rw (recall-kept n r) (rw (ticket-same (tickets n .other) e) before)

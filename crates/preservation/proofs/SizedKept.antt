@@ -2,7 +2,7 @@
 use Prim.Native.Nat.{ℕ, _≤_}
 use native.Mathlib.Omega.{arith}
 use mathlib.Core.Path.{_≡_, _∙_}
-use mathlib.Core.Bool.{true, not, _||_}
+use mathlib.Core.Bool.{true, not}
 use lib.Dec.{eqb}
 use lib.ListN.{length-set}
 use borrow.Author.Tests.{eqb-true}
@@ -21,7 +21,7 @@ use Rattle.machine.specs.Refusal.{_when_else_}
 use Rattle.machine.specs.Operation.{Operation, taking, passing, recalling, givingBack, reading, writing, operationOf, usedBy, fieldsOk}
 use Rattle.machine.specs.Take.{takeTables, afterTake}
 use Rattle.machine.specs.Pass.{passTables, afterPass}
-use Rattle.machine.specs.Recall.{recallTables, afterRecall}
+use Rattle.machine.specs.Recall.{lentAway, goesWith, recallTables, afterRecall}
 use Rattle.machine.specs.GiveBack.{giveBackTables, afterGiveBack}
 use Rattle.machine.specs.Access.{afterRead, afterWrite}
 use Rattle.machine.specs.Step.{requestRefusal, lengthsOk, refusal, afterOwn, dropHead, outcome, step}
@@ -58,7 +58,7 @@ module _ (t : Tables) (z : Sized t) (r : Request) (p : r .pad ≤ 3) (q : r .pro
 
   sized-recall : Case (eqb (asked t r .other .pad) (r .pad)) → Sized (recallTables t r)
   unfolding recallTables
-  sized-recall (pass e) = rw e (dropped-sized (λ n. eqName n (askedName r) || atOrUnder t (asked t r .other) n) t z)
+  sized-recall (pass e) = rw e (sized-removed (goesWith t r) (lentAway t (goesWith t r)) t z)
   sized-recall (fail e) =
       rw e (sized-removed (λ n. eqName n (askedName r)) (atOrBelow t (asked t r .other)) t z)
 

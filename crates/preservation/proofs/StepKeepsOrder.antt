@@ -11,7 +11,7 @@ use borrow.Author.Tests.{eqb-true, eq-eqb}
 use Rattle.lists.proofs.Tests.{Case, pass, fail, case}
 use Rattle.tables.specs.declared.Tables.{Tables}
 use Rattle.tables.specs.Lookup.{Sized}
-use Rattle.tables.specs.Order.{inOrder, noFarChild}
+use Rattle.tables.specs.Order.{inOrder}
 use Rattle.tables.specs.Sheets.{lowestRun}
 use Rattle.tables.proofs.KindLaws.{taken-head, head-grant}
 use Rattle.machine.specs.declared.Request.{Request}
@@ -27,14 +27,14 @@ use Rattle.machine.specs.Step.{ownRefusal, requestRefusal, lengthsOk, refusal, 
 use Rattle.machine.specs.Empty.{emptyDock}
 use Rattle.machine.specs.Sequence.{Sent, enter, after}
 use Rattle.machine.proofs.RefusalLaws.{other-length, whole-lengths}
-use Rattle.preservation.specs.InOrder.{InOrder, Invariant, DockOk}
+use Rattle.preservation.specs.InOrder.{InOrder, DockOk}
 use Rattle.preservation.proofs.SheetTests.{run-fits}
 use Rattle.preservation.proofs.StoreSheets.{length-put}
 use Rattle.preservation.proofs.Preconditions.{Past, late-0, past-request, MayUse, may-take, may-give-back, may-use}
 use Rattle.preservation.proofs.Results.{serve-result, request-refusal-low}
 use Rattle.preservation.proofs.EveryOperationKeeps.{serve-keeps}
-use Rattle.preservation.proofs.OrderPassesTest.{order-passes-test, no-far-child-passes-test}
-use Rattle.preservation.proofs.TestMeansOrder.{test-means-order, test-means-no-far-child}
+use Rattle.preservation.proofs.OrderPassesTest.{order-passes-test}
+use Rattle.preservation.proofs.TestMeansOrder.{test-means-order}
 use Rattle.preservation.proofs.EmptyDockInOrder.{empty-invariant}
 
 -- ---- the store keeps its length
@@ -79,10 +79,10 @@ step-is-serve s r ok a b = rw (eq-eqb (length (s .store)) 16384 a, eq-eqb (lengt
 
 module _ (s : State) (r : Request) (ok : DockOk s) (buf : length (s .sheet) ≡ 64) where
   is-serve : step s r ≡ serve s r
-  is-serve = step-is-serve s r (ok .tables .order) (ok .store) buf
+  is-serve = step-is-serve s r (ok .tables) (ok .store) buf
 
   pub serve-keeps-dock : DockOk (serve s r .state)
-  serve-keeps-dock = record { tables = serve-keeps s r (ok .tables); store = serve-keeps-length s r (ok .tables .order) (ok .store) buf }
+  serve-keeps-dock = record { tables = serve-keeps s r (ok .tables); store = serve-keeps-length s r (ok .tables) (ok .store) buf }
 
   pub step-keeps : DockOk (step s r .state)
   step-keeps = rw is-serve serve-keeps-dock
@@ -91,11 +91,11 @@ module _ (s : State) (r : Request) (ok : DockOk s) (buf : length (s .sheet) ≡ 
   result-at-most-12 = rw (is-serve, serve-result s r) (request-refusal-low (s .tables) r)
 
 -- with buffers of any lengths
-pub step-keeps-invariant : (s : State) (r : Request) → Invariant (s .tables) → Invariant (step s r .state .tables)
+pub step-keeps-invariant : (s : State) (r : Request) → InOrder (s .tables) → InOrder (step s r .state .tables)
 unfolding refused
 step-keeps-invariant s r ok = go (case (lengthsOk s))
   where
-    go : Case (lengthsOk s) → Invariant (step s r .state .tables)
+    go : Case (lengthsOk s) → InOrder (step s r .state .tables)
     go (pass e) = let l = whole-lengths s e in step-keeps s r (record { tables = ok; store = l .0 }) (l .1) .tables
     go (fail e) = rw (other-length s r e) ok
 
@@ -118,21 +118,6 @@ never-13-or-14 is i =
     let ok = sequence-keeps emptyDock empty-dock-ok is in
     result-at-most-12 (enter (after emptyDock is) i) (i .request) (record { tables = ok .tables; store = ok .store }) (i .whole)
 
--- ---- the same with the tests alone: in order in, in order out
-pub record PassesTests (t : Tables) : Type 0 where
-  pub sized : Sized t
-  pub order : inOrder t ≡ true
-  pub noFar : noFarChild t ≡ true
-
-pub invariant-of : (t : Tables) → PassesTests t → Invariant t
-invariant-of t p = record { order = test-means-order t (p .sized) (p .order); noFarChild = test-means-no-far-child t (p .sized) (p .order) (p .noFar) }
-
-pub tests-of : (t : Tables) → Invariant t → PassesTests t
-tests-of t ok = record {
-  sized = ok .order .shape .sized;
-  order = order-passes-test t (ok .order);
-  noFar = no-far-child-passes-test t (ok .order) (ok .noFarChild);
-}
-
-pub step-keeps-tests : (s : State) (r : Request) → PassesTests (s .tables) → PassesTests (step s r .state .tables)
-step-keeps-tests s r p = tests-of (step s r .state .tables) (step-keeps-invariant s r (invariant-of (s .tables) p))
+-- ---- the same with the test alone: in order in, in order out
+pub step-keeps-order : (s : State) (r : Request) → Sized (s .tables) → inOrder (s .tables) ≡ true → inOrder (step s r .state .tables) ≡ true
+step-keeps-order s r z e = order-passes-test (step s r .state .tables) (step-keeps-invariant s r (test-means-order (s .tables) z e))

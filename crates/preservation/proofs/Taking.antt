@@ -22,10 +22,10 @@ use Rattle.tables.proofs.NameLaws.{eqName-true, eqName-ne, program-same}
 use Rattle.machine.specs.declared.Request.{Request}
 use Rattle.machine.specs.Take.{takeTables}
 use Rattle.preservation.specs.Rules.{Apart, Given, here}
-use Rattle.preservation.specs.InOrder.{Shape, InOrder, Invariant}
+use Rattle.preservation.specs.InOrder.{Shape, InOrder}
 use Rattle.preservation.proofs.SheetTests.{outside-of, run-fits, run-outside}
 use Rattle.preservation.proofs.AfterChange.{Added, give-adds, entry-same, entry-other, lookup-put, shape-put}
-use Rattle.preservation.proofs.Insertion.{NewTicket, NewEntry, Inserted, invariant-inserted}
+use Rattle.preservation.proofs.Insertion.{NewTicket, NewEntry, Inserted, order-inserted}
 use Rattle.preservation.proofs.Places.{entryPlace, entry-at-place, entry-place-low, entry-room}
 use Rattle.preservation.proofs.NewNames.{past-ticket, past-entry, past-given, not-past, not-past-entry, new-head}
 use Rattle.tables.specs.Kinds.{isLive}
@@ -135,6 +135,7 @@ module _ (t : Tables) (ok : InOrder t) (r : Request) (may : MayTake t r) where
     entry = rw (entry-x, ticket-x) (record { taken = λ h. refl; received = λ h. no-true (sym h); first = refl; count = refl; rights = refl });
     under = λ z. no-true (sym z ∙ ap underStore entry-x);
     entryChain = (0, here {n = x} (ap underStore entry-x));
+    lent = λ z. no-true (sym z ∙ ap underStore entry-x);
     roots = λ z m l w ne.
         let q = entries-beside m (λ y. ne (sym y)) in
         rw (entry-x, q) (apart-x m (rw q at l));
@@ -178,6 +179,6 @@ module _ (t : Tables) (ok : InOrder t) (r : Request) (may : MayTake t r) where
   shape-after : Shape t₂
   shape-after = shape-put t₁ e refl room fresh (added .shape)
 
-pub take-keeps : (t : Tables) → Invariant t → (r : Request) → MayTake t r → Invariant (takeTables t r)
+pub take-keeps : (t : Tables) → InOrder t → (r : Request) → MayTake t r → InOrder (takeTables t r)
 unfolding takeTables
-take-keeps t ok r may = invariant-inserted t (t₂ t (ok .order) r may) ok (shape-after t (ok .order) r may) (inserted t (ok .order) r may)
+take-keeps t ok r may = order-inserted t (t₂ t ok r may) ok (shape-after t ok r may) (inserted t ok r may)

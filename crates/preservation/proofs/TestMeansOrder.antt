@@ -19,12 +19,12 @@ use Rattle.tables.specs.Names.{noName, eqName, isProgram, free}
 use Rattle.tables.specs.Lookup.{Sized, ticketsOf, lastOf, hasNumber, ticketIn, lookup, isNamed, entryIn, entryOf}
 use Rattle.tables.specs.Chains.{ownName, parentOf, chainHead, entryParent, chainRoot}
 use Rattle.tables.specs.Sheets.{apart, inside}
-use Rattle.tables.specs.Order.{everyTicket, someTicket, everyEntry, numbersOk, t1, spanOk, t2, parentOk, childOk, t3, t4, entryNamesOk, underStore, grantOk, parentEntryOk, entryOk, rootsOk, t5, recallParentOk, isChildOf, farTargetOk, targetOk, recallOk, t6, inOrder, noFarChild}
+use Rattle.tables.specs.Order.{everyTicket, isRecalled, everyEntry, numbersOk, t1, spanOk, t2, parentOk, childOk, t3, t4, entryNamesOk, underStore, grantOk, parentEntryOk, entryOk, rootsOk, t5, recallParentOk, isChildOf, farTargetOk, targetOk, recallOk, t6, inOrder}
 use Rattle.tables.proofs.KindLaws.{live-grant, live-child, live-recall, live-head, live-taken}
 use Rattle.tables.proofs.NameLaws.{eqName-true, eqName-test, is-program}
 use Rattle.tables.proofs.Keys.{ticketKeys, entryKeys, ticketLaws, entryLaws}
 use Rattle.tables.proofs.ByPlace.{ticketAt, place-low, found-number, name-in-range, every-entry-elim, found-name, numbers-at}
-use Rattle.preservation.specs.Rules.{Apart, Given, ChildOk, RecallOk, NearOk, FarOk, Recalled, EntryOk, UnderOk, NoFarChild}
+use Rattle.preservation.specs.Rules.{Apart, Given, ChildOk, RecallOk, NearOk, FarOk, Recalled, EntryOk, UnderOk}
 use Rattle.preservation.specs.InOrder.{Shape, InOrder}
 use Rattle.preservation.proofs.SheetTests.{inside-of, span-of, apart-of, apart-sym}
 use Rattle.preservation.proofs.Walks.{ends-of}
@@ -83,6 +83,12 @@ module _ (t : Tables) (x : Name) (p : Ticket) (e : Entry) (h : farTargetOk t x p
       let g = is-program (x .pad) (x .program) f₁ in
       record { pad = g .pad; program = g .program; low = between-low 1 _ (x .number) f₂; high = between-high 1 _ (x .number) f₂ }
 
+  far-no-child : isChild (lookup t x .kind) ≡ false
+  unfolding farTargetOk
+  far-no-child =
+      let f : not (isChild (lookup t x .kind)) ≡ true = search (and-l, and-r) depth 6 in
+      not-true (isChild (lookup t x .kind)) f
+
   far-entry : e .live ≡ true → FarOk p e
   unfolding farTargetOk
   far-entry l =
@@ -129,9 +135,13 @@ module _ (t : Tables) (z : Sized t) (test : inOrder t ≡ true) where
   unfolding inOrder t6
   rule6-recalls = search (and-l, and-r) depth 8
 
-  rule6-children : everyTicket isChild (λ n k. someTicket isRecall (λ m recall. eqName (recall .other) n) t) t ≡ true
+  rule6-children : everyTicket isChild (λ n k. isRecalled t n) t ≡ true
   unfolding inOrder t6
-  rule6-children = search (and-l, and-r) depth 8
+  rule6-children = search (and-l, and-r) depth 9
+
+  rule6-lent : everyEntry (λ e. implies (not (underStore e)) (isRecalled t (e .name))) t ≡ true
+  unfolding inOrder t6
+  rule6-lent = search (and-l, and-r) depth 9
 
   -- ---- T1
   distinct : (p q : ℕ) → p < 4 → q < 8 → Distinct ticketKeys (ticketsOf t p q)
@@ -275,12 +285,22 @@ module _ (t : Tables) (z : Sized t) (test : inOrder t ≡ true) where
       (every-ticket-elim t z isRecall live-recall (λ a other. implies (eqName (other .other) (lookup t m .other)) (eqName a m)) x n h)
       (eqName-test (lookup t n .other) (lookup t m .other) e))
 
-  recalled-of : (n : Name) → isChild (lookup t n .kind) ≡ true → Recalled (lookup t) n
-  recalled-of n h =
-      let x = every-ticket-elim t z isChild live-child (λ m k. someTicket isRecall (λ a recall. eqName (recall .other) m) t) rule6-children n h in
+  recalled-from : (n : Name) → isRecalled t n ≡ true → Recalled (lookup t) n
+  recalled-from n x =
       let s : SomeName t test-shape isRecall live-recall (λ a recall. eqName (recall .other) n)
       = some-ticket-elim t test-shape isRecall live-recall (λ a recall. eqName (recall .other) n) x in
       record { by = s .name; recall = s .picked; target = eqName-true (lookup t (s .name) .other) n (s .passes) }
+
+  recalled-of : (n : Name) → isChild (lookup t n .kind) ≡ true → Recalled (lookup t) n
+  recalled-of n h = recalled-from n (every-ticket-elim t z isChild live-child (λ m k. isRecalled t m) rule6-children n h)
+
+  lent-of : (n : Name) → entryOf t n .live ≡ true → underStore (entryOf t n) ≡ false → Recalled (lookup t) n
+  lent-of n l w =
+      let f : implies (not (underStore (entryOf t n))) (isRecalled t (entryOf t n .name)) ≡ true
+      = every-entry-elim t z (λ e. implies (not (underStore e)) (isRecalled t (e .name))) rule6-lent n l in
+      recalled-from n
+      (subst (λ (m : Name). isRecalled t m ≡ true) (found-name t z n l)
+      (implies-elim (not (underStore (entryOf t n))) _ f (not-test (underStore (entryOf t n)) w)))
 
   pub test-means-order : InOrder t
   unfolding t2 t4
@@ -305,15 +325,7 @@ module _ (t : Tables) (z : Sized t) (test : inOrder t ≡ true) where
       farEntry = λ n h p. far-entry t _ _ _ (far-test n h p);
       once = once-of;
       recalled = recalled-of;
+      noFar = λ n h p. far-no-child t _ _ _ (far-test n h p);
+      lent = lent-of;
     };
   }
-
-  -- and what the theorems carry beside it
-  pub test-means-no-far-child : noFarChild t ≡ true → NoFarChild (lookup t)
-  unfolding noFarChild
-  test-means-no-far-child e n h p =
-      not-true (isChild (lookup t (lookup t n .other) .kind))
-      (implies-elim (not (eqb (lookup t n .other .pad) (n .pad))) _
-      (every-ticket-elim t z isRecall live-recall
-      (λ m k. implies (not (eqb (k .other .pad) (m .pad))) (not (isChild (lookup t (k .other) .kind)))) e n h)
-      (not-test (eqb (lookup t n .other .pad) (n .pad)) (ne-eqb (lookup t n .other .pad) (n .pad) p)))

@@ -1,5 +1,5 @@
 -- Tables in order, as a proposition: that numbers and entry names are distinct is about places, all else about the two maps (Rules.antt).
--- `InOrder` is T1 to T6 and what the test `inOrder` decides; `Invariant` adds "no recall names a live child of another pad".
+-- `InOrder` is T1 to T6, what the test `inOrder` decides and every request keeps.
 use Prim.Native.Nat.{ℕ, _<_}
 use mathlib.Core.Path.{_≡_}
 use lib.ListN.{length}
@@ -8,7 +8,7 @@ use Rattle.tables.specs.declared.{Tables.Tables}
 use Rattle.tables.specs.Lookup.{Sized, ticketsOf, lastOf, lookup, entryOf}
 use Rattle.tables.proofs.Keys.{ticketKeys, entryKeys}
 use Rattle.machine.specs.State.{State}
-use Rattle.preservation.specs.Rules.{Rules, NoFarChild}
+use Rattle.preservation.specs.Rules.{Rules}
 
 -- the arrays have their lengths; T1, "distinct numbers"; T5, "Entry names are distinct"
 pub record Shape (t : Tables) : Type 0 where
@@ -21,12 +21,7 @@ pub record InOrder (t : Tables) : Type 0 where
   pub shape : Shape t
   pub rules : Rules (lookup t) (entryOf t) (lastOf t)
 
--- what every request keeps
-pub record Invariant (t : Tables) : Type 0 where
-  pub order : InOrder t
-  pub noFarChild : NoFarChild (lookup t)
-
--- a dock that only requests have changed: the invariant, and a store of 256 sheets
+-- a dock that only requests have changed: tables in order, and a store of 256 sheets
 pub record DockOk (s : State) : Type 0 where
-  pub tables : Invariant (s .tables)
+  pub tables : InOrder (s .tables)
   pub store : length (s .store) ≡ 16384

@@ -3,7 +3,7 @@
 use mathlib.Core.Path.{_≡_, refl, sym, ap, _∙_, subst}
 use mathlib.Core.Bool.{Bool, true, false, _||_, cond}
 use lib.Dec.{eqb}
-use Rattle.lists.proofs.Tests.{Case, pass, fail, case}
+use Rattle.lists.proofs.Tests.{Case, pass, fail, case, both-ways}
 use Rattle.tables.specs.declared.{Name.Name, Ticket.Ticket, Entry.Entry, Tables.Tables}
 use Rattle.tables.specs.Names.{eqName, free, noEntry}
 use Rattle.tables.specs.Lookup.{lookup, entryOf}
@@ -12,12 +12,15 @@ use Rattle.tables.specs.Change.{dropTickets}
 use Rattle.tables.specs.Same.{said, saidEntry, SameTables}
 use Rattle.machine.specs.declared.Request.{Request}
 use Rattle.machine.specs.State.{askedName, asked}
-use Rattle.machine.specs.Recall.{recallTables}
+use Rattle.machine.specs.Recall.{lentAway, goesWith, recallTables}
 use Rattle.machine.specs.GiveBack.{giveBackTables}
 use Rattle.machine.specs.Step.{dropHead}
 use Rattle.preservation.proofs.AfterChange.{removed, lookup-removed, entry-removed, last-removed}
 use Rattle.preservation.proofs.RemovingOperations.{drop-no-entry}
-use Rattle.sameness.proofs.SaidFacts.{same-target}
+use Rattle.sameness.proofs.SaidFacts.{same-kind, same-target}
+use Rattle.preservation.specs.InOrder.{InOrder}
+use Rattle.preservation.proofs.LentAway.{lent-away, lent-from}
+use Rattle.sameness.proofs.SameIsEquivalence.{same-sym}
 use Rattle.sameness.proofs.SameWalks.{under-same, head-same, below-same}
 use Rattle.tables.specs.Kinds.{isRecall}
 
@@ -29,6 +32,21 @@ said-dropped false k m e = e
 said-entry-dropped : (b : Bool) (d e : Entry) → saidEntry d ≡ saidEntry e → saidEntry (cond b noEntry d) ≡ saidEntry (cond b noEntry e)
 said-entry-dropped true d e s = refl
 said-entry-dropped false d e s = s
+
+-- what was lent away from the tickets that go is the same on both sides
+lent-there : (t u : Tables) → SameTables t u → InOrder t → InOrder u → (gone gone′ : Name → Bool) → ((n : Name) → gone n ≡ gone′ n)
+    → (n : Name) → lentAway t gone n ≡ true → lentAway u gone′ n ≡ true
+lent-there t u same ok ok′ gone gone′ goes n e =
+    let f = lent-from t ok gone n e in
+    let target = same-target t u same (f .by) (f .recall) in
+    lent-away u ok′ gone′ n
+    (record {
+      by = f .by;
+      recall = ap isRecall (sym (same-kind t u same (f .by))) ∙ f .recall;
+      goes = sym (goes (f .by)) ∙ f .goes;
+      away = λ p. f .away (ap (λ (m : Name). m .pad) target ∙ p);
+      below = ap (λ (x : Name). atOrBelow u x n) (sym target) ∙ sym (below-same t u same _ n) ∙ f .below;
+    })
 
 module _ (t u : Tables) (same : SameTables t u) where
   module _ (gone gone′ cut cut′ : Name → Bool) (goes : (n : Name) → gone n ≡ gone′ n) (cuts : (n : Name) → cut n ≡ cut′ n) where
@@ -65,9 +83,9 @@ module _ (t u : Tables) (same : SameTables t u) where
         (λ n. under-same t u same (chainHead t (askedName r)) n ∙ ap (λ (x : Name). atOrUnder u x n) (head-same t u same (askedName r)))
 
     -- the target is one name on both sides
-    pub same-after-recall : isRecall (asked t r .kind) ≡ true → SameTables (recallTables t r) (recallTables u r)
+    pub same-after-recall : InOrder t → InOrder u → isRecall (asked t r .kind) ≡ true → SameTables (recallTables t r) (recallTables u r)
     unfolding recallTables
-    same-after-recall recall = go (case (eqb (asked t r .other .pad) (r .pad)))
+    same-after-recall ok ok′ recall = go (case (eqb (asked t r .other .pad) (r .pad)))
       where
         target : asked t r .other ≡ asked u r .other
         target = same-target t u same (askedName r) recall
@@ -75,13 +93,17 @@ module _ (t u : Tables) (same : SameTables t u) where
         pads : eqb (asked u r .other .pad) (r .pad) ≡ eqb (asked t r .other .pad) (r .pad)
         pads = ap (λ (x : Name). eqb (x .pad) (r .pad)) (sym target)
 
+        goes : (n : Name) → goesWith t r n ≡ goesWith u r n
+        goes n =
+            ap (λ (b : Bool). eqName n (askedName r) || b)
+            (under-same t u same (asked t r .other) n ∙ ap (λ (x : Name). atOrUnder u x n) target)
+
         go : Case (eqb (asked t r .other .pad) (r .pad)) → SameTables (recallTables t r) (recallTables u r)
         go (pass e) =
             rw (pads, e)
-            (same-dropped (λ n. eqName n (askedName r) || atOrUnder t (asked t r .other) n) (λ n. eqName n (askedName r) || atOrUnder u (asked u r .other) n)
-            (λ n.
-            ap (λ (b : Bool). eqName n (askedName r) || b)
-            (under-same t u same (asked t r .other) n ∙ ap (λ (x : Name). atOrUnder u x n) target)))
+            (same-removed (goesWith t r) (goesWith u r) (lentAway t (goesWith t r)) (lentAway u (goesWith u r)) goes
+            (λ n. both-ways (lentAway t (goesWith t r) n) (lentAway u (goesWith u r) n) (lent-there t u same ok ok′ (goesWith t r) (goesWith u r) goes n)
+            (lent-there u t (same-sym t u same) ok′ ok (goesWith u r) (goesWith t r) (λ m. sym (goes m)) n)))
         go (fail e) =
             rw (pads, e)
             (same-removed (λ n. eqName n (askedName r)) (λ n. eqName n (askedName r)) (atOrBelow t (asked t r .other)) (atOrBelow u (asked u r .other))

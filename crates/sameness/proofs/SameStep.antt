@@ -79,7 +79,7 @@ module _ (t u : Tables) (ok : InOrder t) (ok′ : InOrder u) (same : SameTables 
 
   recall-same : ownRefusal recalling t r ≡ 0 → SameOutcome (afterRecall s r) (afterRecall s′ r)
   unfolding ownRefusal afterRecall accepted withTables
-  recall-same e = record { answer = refl; store = refl; sheet = refl; tables = same-after-recall t u same r (may-recall t r e) }
+  recall-same e = record { answer = refl; store = refl; sheet = refl; tables = same-after-recall t u same r ok ok′ (may-recall t r e) }
 
   give-back-same : ownRefusal givingBack t r ≡ 0 → SameOutcome (afterGiveBack s r) (afterGiveBack s′ r)
   unfolding ownRefusal afterGiveBack accepted

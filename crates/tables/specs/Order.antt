@@ -1,5 +1,5 @@
--- Tables in order: T1 to T6, one test each, in the words of document 01. Refusal 14 computes `inOrder`. A last test stands apart:
--- "no recall names a live child of another pad" is what the theorems carry beside T1 to T6.
+-- Tables in order: T1 to T6, one test each, in the words of document 01 and, in T6, of document 02's first request. Refusal 14 computes
+-- `inOrder`.
 use Prim.Native.Nat.{ℕ, _+_}
 use mathlib.Core.Bool.{Bool, not, _&&_, cond}
 use lib.Dec.{leb, eqb}
@@ -106,10 +106,11 @@ unfoldable pub isChildOf : Name → Ticket → Bool
 isChildOf parent k = isChild (k .kind) && eqName (k .other) parent
 
 -- "a name on another pad whose number is between 1 and that program's last. If that name is in the dock, its parent is the
--- grant's dock name and its sheets and rights lie within the grant's."
+-- grant's dock name and its sheets and rights lie within the grant's." 02, 1/13: "no recall names a live child of another pad"
 unfoldable pub farTargetOk : Tables → Name → Ticket → Entry → Bool
 farTargetOk t target grant e =
     isProgram (target .pad) (target .program) && between 1 (lastOf t (target .pad) (target .program)) (target .number)
+    && not (isChild (lookup t target .kind))
     && implies (e .live)
     (eqName (e .parent) (grant .dock) && inside (e .first) (e .count) (e .rights) (grant .first) (grant .count) (grant .rights))
 
@@ -126,16 +127,17 @@ recallOk t n k =
     recallParentOk (lookup t (ownName n k)) && targetOk t n k
     && everyTicket isRecall (λ m other. implies (eqName (other .other) (k .other)) (eqName m n)) t
 
--- "every child has one"
+-- some live recall names n
+abbrev pub isRecalled : Tables → Name → Bool
+isRecalled t n = someTicket isRecall (λ m recall. eqName (recall .other) n) t
+
+-- "every child has one". 02, 1/13: "every entry below another has exactly one live recall naming it": no target has two
 unfoldable pub t6 : Tables → Bool
 t6 t =
     everyTicket isRecall (recallOk t) t
-    && everyTicket isChild (λ n k. someTicket isRecall (λ m recall. eqName (recall .other) n) t) t
+    && everyTicket isChild (λ n k. isRecalled t n) t
+    && everyEntry (λ e. implies (not (underStore e)) (isRecalled t (e .name))) t
 
 -- ---- "Tables are in order when: T1 .. T6"
 unfoldable pub inOrder : Tables → Bool
 inOrder t = t1 t && t2 t && t3 t && t4 t && t5 t && t6 t
-
--- ---- beside T1 to T6: no recall names a live child of another pad. Every operation keeps T1 to T6 only with it.
-unfoldable pub noFarChild : Tables → Bool
-noFarChild t = everyTicket isRecall (λ n k. implies (not (eqb (k .other .pad) (n .pad))) (not (isChild (lookup t (k .other) .kind)))) t

@@ -29,12 +29,12 @@ returns c =
 asked-name-requires : tie.Need-asked-name-requires
 asked-name-requires c κs = search needs
 
-drop-under-requires : tie.Need-drop-under-requires
-drop-under-requires c κs =
+drop-followed-requires : tie.Need-drop-followed-requires
+drop-followed-requires c κs =
     let s = c .before .before .before .before .before .before .before .before .before .before .before .before in
     let low = sender-possible (s .args .r) (s .pre .1 .1 .early) .pad in
     let near = ap (λ (n : Name). n .pad) (c .before .before .before .before .before .before .asked-name .ensures) ∙ sym (c .before .if2 .taken) in
-    (s .pre .0, (s .pre .1 .0 .linked, (omega (arith, low, c .before .if2 .taken), near)))
+    (s .pre .0, (s .pre .1 .0 .linked, ((omega (arith, low, c .before .if2 .taken), near), s .pre .1 .0 .entries)))
 
 plain-requires-2 : tie.Need-plain-requires-2
 plain-requires-2 c κs = search needs
@@ -48,7 +48,7 @@ returns-2 c =
     let t = decode (s .args .image .now) in
     let r = s .args .r in
     let d = c .before .before .before .before .before .before .before .before .before .before .before .before .before .allowed .ensures in
-    λ store sheet. leaves (c .before .before .before .drop-under .ensures) (c .plain2 .ensures)
+    λ store sheet. leaves (c .before .before .before .drop-followed .ensures) (c .plain2 .ensures)
     (recalled t store sheet r (s .pre .1 .1) (sym (d .result) ∙ c .before .before .before .before .before .before .before .before .before .before .before .if1 .left) (recalled-near t r _ (d .ticket) (c .before .before .before .before .before .if2 .taken) _ (c .before .before .before .before .before .before .before .before .before .before .asked-name .ensures)))
 
 drop-one-requires : tie.Need-drop-one-requires
@@ -88,7 +88,7 @@ recall-spec =
     same-length
     returns
     asked-name-requires
-    drop-under-requires
+    drop-followed-requires
     plain-requires-2
     same-length-2
     returns-2

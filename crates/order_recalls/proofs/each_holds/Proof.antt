@@ -176,8 +176,8 @@ loop-again c =
           (omega (arith, c3 .if4 .left, has-key w)) (c .before .before .ticket-at3 .ensures) (passed (c .before .is-child-of .ensures) (c .if5 .left))),
     )
 
-was-given-requires : tie.Need-was-given-requires Inv-loop μ-loop
-was-given-requires c κs =
+may-name-requires : tie.Need-may-name-requires Inv-loop μ-loop
+may-name-requires c κs =
     let c20 = c .before .before .before .before .before .before .before .before .before .before .before .before .before .before .before .before .before .before .before .before in
     c20 .pre .0
 
@@ -196,7 +196,7 @@ returns-5 c =
     let w = pick {image = c22 .args .image .now} (c22 .pre .1 .1 .1 .0) (c22 .pre .1 .1 .1 .1) (c16 .loop-test .taken) (c14 .wide .ensures)
     (c12 .ticket-at .ensures) (c11 .own-name .ensures) (c9 .place-of .ensures) in
     λ t x. not-given x w (omega (arith, c8 .if1 .left)) (c7 .ticket-at2 .ensures) (passed (c6 .recall-parent-ok .ensures) (c5 .if2 .left)) (c .before .before .if3 .left)
-    (failed (c .before .was-given .ensures) (c .if6 .taken))
+    (failed (c .before .may-name .ensures) (c .if6 .taken))
 
 note-of-requires : tie.Need-note-of-requires Inv-loop μ-loop
 note-of-requires c κs =
@@ -230,7 +230,7 @@ returns-6 c =
     let w = pick {image = c27 .args .image .now} (c27 .pre .1 .1 .1 .0) (c27 .pre .1 .1 .1 .1) (c21 .loop-test .taken) (c19 .wide .ensures)
     (c17 .ticket-at .ensures) (c16 .own-name .ensures) (c14 .place-of .ensures) in
     λ t x. far-bad x w (omega (arith, c13 .if1 .left)) (c12 .ticket-at2 .ensures) (passed (c11 .recall-parent-ok .ensures) (c10 .if2 .left)) (c7 .if3 .left)
-    (passed (c6 .was-given .ensures) (c5 .if6 .left)) (c4 .note-of .result) (c4 .note-of .ensures) (c .before .before .entry-at .ensures) (c .before .far-entry-ok .ensures) (c .if8 .taken)
+    (passed (c6 .may-name .ensures) (c5 .if6 .left)) (c4 .note-of .result) (c4 .note-of .ensures) (c .before .before .entry-at .ensures) (c .before .far-entry-ok .ensures) (c .if8 .taken)
 
 loop-less-2 : tie.Need-loop-less-2 Inv-loop μ-loop
 loop-less-2 c =
@@ -259,7 +259,7 @@ loop-again-2 c =
       omega arith,
       λ t x. held-more x w (c27 .args .recalls .now) (c22 .loop .i) (c19 .wide .ensures) (c22 .loop .inv .1 t x)
           (far-ok x w (omega (arith, c13 .if1 .left)) (c12 .ticket-at2 .ensures) (passed (c11 .recall-parent-ok .ensures) (c10 .if2 .left)) (c7 .if3 .left)
-          (passed (c6 .was-given .ensures) (c5 .if6 .left)) (c4 .note-of .result) (c4 .note-of .ensures) (c .before .before .entry-at .ensures) (c .before .far-entry-ok .ensures)
+          (passed (c6 .may-name .ensures) (c5 .if6 .left)) (c4 .note-of .result) (c4 .note-of .ensures) (c .before .before .entry-at .ensures) (c .before .far-entry-ok .ensures)
           (c .if8 .left)),
     )
 
@@ -288,7 +288,7 @@ loop-again-3 c =
       omega arith,
       λ t x. held-more x w (c24 .args .recalls .now) (c19 .loop .i) (c16 .wide .ensures) (c19 .loop .inv .1 t x)
           (far-none x w (omega (arith, c10 .if1 .left)) (c9 .ticket-at2 .ensures) (passed (c8 .recall-parent-ok .ensures) (c7 .if2 .left)) (c4 .if3 .left)
-          (passed (c3 .was-given .ensures) (c .before .before .if6 .left)) (subst (λ (m : ℕ). 256 ≤ m) (c .before .note-of .ensures) (c .if7 .left))),
+          (passed (c3 .may-name .ensures) (c .before .before .if6 .left)) (subst (λ (m : ℕ). 256 ≤ m) (c .before .note-of .ensures) (c .if7 .left))),
     )
 
 returns-7 : tie.Need-returns-7 Inv-loop μ-loop
@@ -322,7 +322,7 @@ each-holds-spec =
     returns-4
     loop-less
     loop-again
-    was-given-requires
+    may-name-requires
     returns-5
     note-of-requires
     entry-at-requires

@@ -1,0 +1,3 @@
+pub mod Lending
+pub mod Turns
+pub mod ByNames
