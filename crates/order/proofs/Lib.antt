@@ -1,3 +1,2 @@
 mod Numbered
 mod Rules
-mod Far

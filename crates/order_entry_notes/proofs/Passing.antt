@@ -17,9 +17,10 @@ use Rattle.image.specs.Numbers.{numberAt}
 use Rattle.image.specs.Image.{entryStart, livesOk}
 use Rattle.image_read.specs.Places.{ticketsIn, entriesIn}
 use Rattle.image_read.proofs.Places.{tickets-long, entries-long}
-use Rattle.order_lists.specs.Listing.{Listing, isRoot, isHung}
+use Rattle.order_lists.specs.Listing.{Listing, Beside, isRoot, isHung}
 use Rattle.order_lists.proofs.Turns.{listed-none, listed-turn, listed-past, listed-to}
-use Rattle.order_entry_notes.specs.Notes.{everyLive, placeOf, hasGrant, namesApart, NotesOf, Noting}
+use Rattle.order_lists.proofs.Values.{beside-none, beside-turn, values-of}
+use Rattle.order_entry_notes.specs.Notes.{everyLive, placeOf, hasGrant, namesApart, NotesOf, Noting, Listed}
 use Rattle.order_entry_notes.proofs.Noting.{SoFar, grant-none, grant-some, grant-at-place, noted-none, noted-skip, noted-bad, noted-twice, noted-more, noted-end}
 
 module _ (image numbers : List ℕ) where
@@ -36,21 +37,23 @@ module _ (image numbers : List ℕ) where
   abbrev suited : Bool
   suited = everyLive (hasGrant ks numbers) es && namesApart numbers es
 
-  pub record Passed (i : ℕ) (notes roots hung : List ℕ) (a b : ℕ) : Type 0 where
+  pub record Passed (i : ℕ) (notes roots hung received : List ℕ) (a b : ℕ) : Type 0 where
     pub lives : (p : ℕ) → p < i → leb (numberAt (entryStart p) image) 1 ≡ true
     pub so : SoFar (ticketsIn image) numbers (entriesIn image) i notes
-    pub long : (length roots ≡ 256) × (length hung ≡ 256)
+    pub long : (length roots ≡ 256) × ((length hung ≡ 256) × (length received ≡ 256))
     pub top : Listing noEntry isRoot (entriesIn image) i roots a
     pub under : Listing noEntry isHung (entriesIn image) i hung b
+    pub grants : Beside noEntry (placeOf numbers) 256 (entriesIn image) hung received b
 
-  pub passed-none : (notes roots hung : List ℕ) → notes ≡ replicate {A = ℕ} 256 256 → (length roots ≡ 256) × (length hung ≡ 256)
-      → Passed 0 notes roots hung 0 0
-  passed-none notes roots hung e long = record {
+  pub passed-none : (notes roots hung received : List ℕ) → notes ≡ replicate {A = ℕ} 256 256
+      → (length roots ≡ 256) × ((length hung ≡ 256) × (length received ≡ 256)) → Passed 0 notes roots hung received 0 0
+  passed-none notes roots hung received e long = record {
     lives = λ p h. absurd (omega (arith, h));
     so = noted-none ks numbers es notes e;
     long = long;
     top = listed-none noEntry isRoot es roots;
     under = listed-none noEntry isHung es hung;
+    grants = beside-none noEntry (placeOf numbers) 256 es hung received;
   }
 
   -- a no
@@ -61,7 +64,7 @@ module _ (image numbers : List ℕ) where
     unsuited : suited ≡ false → Noting (livesOk image) (ticketsIn image) numbers (entriesIn image) after r
     unsuited f = refuted (ap (λ (b : Bool). livesOk image && b) f ∙ and-false (livesOk image))
 
-  module _ (i : ℕ) (notes roots hung : List ℕ) (a b : ℕ) (w : Passed i notes roots hung a b) (low : i < 256)
+  module _ (i : ℕ) (notes roots hung received : List ℕ) (a b : ℕ) (w : Passed i notes roots hung received a b) (low : i < 256)
       (n : ℕ) (e : n ≡ numberAt (entryStart i) image) where
     -- ---- neither live nor not
     pub bad-live : 1 < n → (after : List ℕ) (r : Bool) → r ≡ false → Noting (livesOk image) (ticketsIn image) numbers (entriesIn image) after r
@@ -74,13 +77,14 @@ module _ (image numbers : List ℕ) where
       lives-more = below-more _ i (w .lives) (le-leb (said i) 1 (omega (arith, e, two)))
 
       -- ---- a place without an entry
-      pub passed-free : read .live ≡ false → Passed (i + 1) notes roots hung a b
+      pub passed-free : read .live ≡ false → Passed (i + 1) notes roots hung received a b
       passed-free d = record {
         lives = lives-more;
         so = noted-skip ks numbers es i notes (w .so) read this d;
         long = w .long;
         top = listed-past noEntry isRoot es i roots a (w .top) (omega (arith, w .long .0, low)) read this (rw d);
-        under = listed-past noEntry isHung es i hung b (w .under) (omega (arith, w .long .1, low)) read this (rw d);
+        under = listed-past noEntry isHung es i hung b (w .under) (omega (arith, w .long .1 .0, low)) read this (rw d);
+        grants = w .grants;
       }
 
       -- ---- an entry, and the place that the code finds for its grant
@@ -105,18 +109,20 @@ module _ (image numbers : List ℕ) where
 
           module _ (none : 256 ≤ getD notes p 0) (x y : Bool) (ex : x ≡ isRoot read) (ey : y ≡ isHung read)
               (q r : ℕ) (eq : q ≡ cond x 1 0) (er : r ≡ cond y 1 0) where
-            pub passed-live : Passed (i + 1) (set notes p i) (set roots a i) (set hung b i) (a + q) (b + r)
+            pub passed-live : Passed (i + 1) (set notes p i) (set roots a i) (set hung b i) (set received b p) (a + q) (b + r)
             passed-live = record {
               lives = lives-more;
               so = noted-more ks numbers es i notes (w .so) read this inside live p (grant-at-place ks numbers read p found h) low h
                   (grant-some ks numbers read p found h) (omega (arith, note-here, none));
-              long = (length-set roots a i ∙ w .long .0, length-set hung b i ∙ w .long .1);
+              long = (length-set roots a i ∙ w .long .0, (length-set hung b i ∙ w .long .1 .0, length-set received b p ∙ w .long .1 .1));
               top = listed-turn noEntry isRoot es i roots a (w .top) (omega (arith, w .long .0, low)) read this x ex q eq;
-              under = listed-turn noEntry isHung es i hung b (w .under) (omega (arith, w .long .1, low)) read this y ey r er;
+              under = listed-turn noEntry isHung es i hung b (w .under) (omega (arith, w .long .1 .0, low)) read this y ey r er;
+              grants = beside-turn noEntry (placeOf numbers) 256 es hung received b (w .grants) (omega (arith, w .long .1 .0, w .under .most, low))
+                  (omega (arith, w .long .1 .1, w .under .most, low)) i p read this (grant-at-place ks numbers read p found h) h y r er;
             }
 
   -- ---- the end
-  module _ (i : ℕ) (notes roots hung : List ℕ) (a b : ℕ) (w : Passed i notes roots hung a b) (end : i ≡ 256) where
+  module _ (i : ℕ) (notes roots hung received : List ℕ) (a b : ℕ) (w : Passed i notes roots hung received a b) (end : i ≡ 256) where
     pub all-noted : Noting (livesOk image) (ticketsIn image) numbers (entriesIn image) notes true
     unfolding livesOk
     all-noted = record {
@@ -127,5 +133,11 @@ module _ (image numbers : List ℕ) where
       noted = λ _. subst (λ (m : ℕ). NotesOf numbers es m notes) end (w .so .kept);
     }
 
-    pub all-listed : Listing noEntry isRoot (entriesIn image) 256 roots a × Listing noEntry isHung (entriesIn image) 256 hung b
-    all-listed = (listed-to noEntry isRoot es end (w .top), listed-to noEntry isHung es end (w .under))
+    pub all-listed : Listed numbers (entriesIn image) roots hung received a b
+    all-listed =
+        let under = listed-to noEntry isHung es end (w .under) in
+        record {
+          top = listed-to noEntry isRoot es end (w .top);
+          under = under;
+          grants = values-of noEntry (placeOf numbers) 256 es isHung 256 hung received b under (w .grants);
+        }

@@ -12,6 +12,7 @@ use Rattle.tables.specs.declared.{Name.Name, Ticket.Ticket, Entry.Entry}
 use Rattle.tables.specs.Names.{free, noEntry}
 use Rattle.tables.specs.Order.{grantOk}
 use Rattle.image_places.specs.Places.{placeIn}
+use Rattle.order_lists.specs.Listing.{Listing, Values, isRoot, isHung}
 
 abbrev pub everyLive : (Entry → Bool) → List Entry → Bool
 everyLive test es = all (λ e. implies (e .live) (test e)) es
@@ -43,6 +44,12 @@ pub record NotesOf (numbers : List ℕ) (es : List Entry) (i : ℕ) (notes : Lis
 pub record Noting (lives : Bool) (tickets : List Ticket) (numbers : List ℕ) (es : List Entry) (notes : List ℕ) (r : Bool) : Type 0 where
   pub same : r ≡ (lives && (everyLive (hasGrant tickets numbers) es && namesApart numbers es))
   pub noted : r ≡ true → NotesOf numbers es 256 notes
+
+-- the lists that noting leaves: the places of entries under the store, of those under others, and of the grants that the latter name
+pub record Listed (numbers : List ℕ) (es : List Entry) (roots hung received : List ℕ) (a b : ℕ) : Type 0 where
+  pub top : Listing noEntry isRoot es 256 roots a
+  pub under : Listing noEntry isHung es 256 hung b
+  pub grants : Values noEntry isHung (placeOf numbers) 256 es 256 received b
 
 -- ---- the entry of a name, by its note
 -- its place among the entries; 256 where there is none

@@ -2,12 +2,10 @@
 ghost use mathlib.Core.Path.{_≡_};
 ghost use mathlib.Core.Bool.{true, false, cond};
 ghost use lib.ListN.{length, replicate};
-ghost use Rattle.tables.specs.Names.{noEntry};
 ghost use Rattle.image.specs.Layout.{imageSize};
 ghost use Rattle.image.specs.Image.{livesOk};
 ghost use Rattle.image_read.specs.Places.{ticketsIn, entriesIn};
-ghost use Rattle.order_lists.specs.Listing.{Listing, isRoot, isHung};
-ghost use Rattle.order_entry_notes.specs.Notes.{Noting, noteOf, placeOf, hasGrant};
+ghost use Rattle.order_entry_notes.specs.Notes.{Noting, Listed, noteOf, placeOf, hasGrant};
 use tables::Entry;
 use tables::Name;
 
@@ -45,17 +43,19 @@ fn grant_place(image: &[u8], numbers: &[u16], e: Entry) -> usize
     p
 }
 
-// Notes each entry's place at the place of the grant that it names, and lists the places of those under the store and of those under others.
-// The answer is no where an entry is neither live nor not, or names no grant that suits it, or two name one.
+// Notes each entry's place at the place of the grant that it names, and lists the places of those under the store, of those under others, and
+// beside the latter the places of their grants. The answer is no where an entry is neither live nor not, or names no grant that suits it, or
+// two name one.
 pub fn note_entries(
     image: &[u8],
     numbers: &[u16],
     notes: &mut [u16],
     roots: &mut [u16],
     hung: &mut [u16],
+    received: &mut [u16],
 ) -> Entries
-    requires { ⌜ (length (now image) ≡ imageSize) × ((length (now numbers) ≡ 256) × ((now notes ≡ replicate 256 256) × ((length (now roots) ≡ 256) × (length (now hung) ≡ 256)))) ⌝ }
-    ensures { λ r. ⌜ Noting (livesOk (now (image .entry))) (ticketsIn (now (image .entry))) (now (numbers .entry)) (entriesIn (now (image .entry))) (now (notes .exit)) (r .ok) × (r .ok ≡ true → Listing noEntry isRoot (entriesIn (now (image .entry))) 256 (now (roots .exit)) (r .roots) × Listing noEntry isHung (entriesIn (now (image .entry))) 256 (now (hung .exit)) (r .hung)) ⌝ }
+    requires { ⌜ (length (now image) ≡ imageSize) × ((length (now numbers) ≡ 256) × ((now notes ≡ replicate 256 256) × ((length (now roots) ≡ 256) × ((length (now hung) ≡ 256) × (length (now received) ≡ 256))))) ⌝ }
+    ensures { λ r. ⌜ Noting (livesOk (now (image .entry))) (ticketsIn (now (image .entry))) (now (numbers .entry)) (entriesIn (now (image .entry))) (now (notes .exit)) (r .ok) × (r .ok ≡ true → Listed (now (numbers .entry)) (entriesIn (now (image .entry))) (now (roots .exit)) (now (hung .exit)) (now (received .exit)) (r .roots) (r .hung)) ⌝ }
 {
     let mut a: usize = 0;
     let mut b: usize = 0;
@@ -80,6 +80,7 @@ pub fn note_entries(
             notes[p] = place;
             roots[a] = place;
             hung[b] = place;
+            received[b] = p as u16;
             a = a + order_lists::one_if(order_lists::is_root(e));
             b = b + order_lists::one_if(order_lists::is_hung(e));
         }

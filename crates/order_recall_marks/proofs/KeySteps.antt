@@ -1,4 +1,4 @@
--- Keys by cases, as the code computes them; the keys of the listed recalls written one after the other; a child's mark.
+-- Keys by cases, as the code computes them; the keys of the listed recalls written one after the other.
 use Prim.Native.Nat.{ℕ, zero, suc, _+_, _*_, _≤_, _<_}
 use native.Mathlib.Omega.{arith}
 use mathlib.Core.Path.{_≡_, refl, sym, ap, _∙_, subst}
@@ -6,16 +6,14 @@ use mathlib.Core.Bool.{true, false}
 use mathlib.Core.List.{List, [], _∷_, map}
 use lib.ListN.{length, getD, set, length-map}
 use lib.Seq.{ext-getD}
-use borrow.Author.Tests.{lt-ltb, le-ltb, eq-eqb, ne-eqb}
-use Rattle.lists.specs.Tests.{implies}
-use Rattle.lists.proofs.Tests.{implies-intro}
+use borrow.Author.Tests.{lt-ltb, le-ltb}
 use Rattle.tables.specs.declared.{Name.Name, Ticket.Ticket}
 use Rattle.tables.specs.Names.{free}
-use Rattle.tables.specs.Kinds.{isChild, isRecall}
+use Rattle.tables.specs.Kinds.{isRecall}
 use Rattle.image_places.specs.Places.{placeIn}
 use Rattle.order_lists.specs.Listing.{TicketsListed}
 use Rattle.order_lists.proofs.Laws.{Filled, filled-more, filled-end}
-use Rattle.order_recall_marks.specs.Keys.{keyOf, targetKey, childMarked}
+use Rattle.order_recall_marks.specs.Keys.{keyOf, targetKey}
 
 abbrev pub deadKey : Name → ℕ
 deadKey n = 257 + (n .pad * 65536 + n .program) * 65536 + n .number
@@ -63,17 +61,3 @@ module _ (numbers : List ℕ) (ks : List Ticket) (recalls : List ℕ) where
         filled-end 256 256 (λ q. targetKey numbers (getD ks q free)) recalls free (λ k. isRecall (k .kind)) ks (length recalls) listing
         (λ q g r. sym (key-none numbers (getD ks q free) r)) i keys h so p (omega (arith, so .long, l))
         ∙ sym (getD-mapped (targetKey numbers) ks p free 0 (omega (arith, so .long, long, l))))
-
--- ---- a child's mark
-module _ (marks : List ℕ) (p : ℕ) (k : Ticket) where
-  pub no-child : isChild (k .kind) ≡ false → childMarked marks p k ≡ true
-  unfolding childMarked implies
-  no-child e = rw e
-
-  pub child-ok : getD marks p 0 ≡ 1 → childMarked marks p k ≡ true
-  unfolding childMarked
-  child-ok e = implies-intro (isChild (k .kind)) _ (λ c. eq-eqb (getD marks p 0) 1 e)
-
-  pub child-not : isChild (k .kind) ≡ true → (getD marks p 0 ≡ 1 → ⊥) → childMarked marks p k ≡ false
-  unfolding childMarked implies
-  child-not e ne = rw e (ne-eqb (getD marks p 0) 1 ne)

@@ -1,32 +1,30 @@
 -- What the keys say of the tables. A live target's key is its place, and what has that place has that name; a dead target's key spells
 -- its name. So two recalls have the same key just where they have the same target, and no key stands twice just where no target has two
 -- recalls. A place is a key just where the ticket there is the target of a recall: so every child is marked just where every child has
--- one.
+-- one, and so are the grants that entries below others name.
 use Prim.Native.Nat.{ℕ, _≤_, _<_}
 use native.Mathlib.Omega.{arith}
 use mathlib.Core.Path.{_≡_, refl, sym, ap, _∙_, subst}
-use mathlib.Core.Bool.{Bool, true, false, not, _&&_}
+use mathlib.Core.Bool.{Bool, true, false, not}
 use mathlib.Core.List.{List, map}
 use lib.Dec.{ltb, eqb}
 use lib.ListN.{length, getD, length-map}
 use borrow.Author.Tests.{not-true, ltb-true, ltb-false, lt-ltb, eqb-true, eq-eqb, ne-eqb}
 use Rattle.lists.specs.Tests.{implies}
-use Rattle.lists.specs.Lists.{all, some, noTwo, allAt}
-use Rattle.lists.proofs.Tests.{Case, pass, fail, case, no-true, contradiction, both-ways, not-test, implies-intro, implies-elim}
-use Rattle.lists.proofs.Everywhere.{all-intro, all-elim, allAt-intro, allAt-elim, some-intro, some-elim, noTwo-intro, noTwo-elim}
+use Rattle.lists.specs.Lists.{all, some, noTwo}
+use Rattle.lists.proofs.Tests.{Case, pass, fail, case, contradiction, both-ways, not-test, and-l, and-r, and-intro, implies-intro, implies-elim}
+use Rattle.lists.proofs.Everywhere.{all-intro, all-elim, some-intro, some-elim, noTwo-intro, noTwo-elim}
 use Rattle.tables.specs.declared.{Name.Name, Ticket.Ticket, Entry.Entry, Tables.Tables}
 use Rattle.tables.specs.Names.{free, noEntry, eqName}
-use Rattle.tables.specs.Lookup.{isNamed, entryIn, entryOf}
-use Rattle.tables.proofs.Keys.{entryKeys, entryLaws}
-use Rattle.lists.proofs.Keyed.{found-somewhere}
-use Rattle.tables.specs.Order.{everyTicket, someTicket, everyEntry, underStore, isRecalled}
+use Rattle.tables.specs.Order.{everyTicket, everyEntry, underStore, isRecalled}
 use Rattle.tables.proofs.KindLaws.{live-child, live-recall}
 use Rattle.tables.proofs.NameLaws.{name-eq, eqName-true, eqName-test}
 use Rattle.tables.proofs.Fits.{NameFits}
 use Rattle.image_places.specs.Places.{placed, nameAt, placeIn, Flattened, Numbered}
 use Rattle.image_places.proofs.Laws.{every-placed, placed-every, some-placed, placed-some, place-found, name-place}
-use Rattle.order_lists.specs.Listing.{TicketsListed}
-use Rattle.order_recall_marks.specs.Keys.{keyOf, targetKey, isPlace, isDead, KeysListed, childMarked, nameMarked, hungMarked}
+use Rattle.order_lists.specs.Listing.{Source, TicketsListed, ReceivedListed, isHung}
+use Rattle.order_lists.proofs.Laws.{listed-all}
+use Rattle.order_recall_marks.specs.Keys.{keyOf, targetKey, isPlace, isDead, KeysListed, isMarked}
 use Rattle.order_recall_marks.proofs.KeySteps.{deadKey, key-place, key-dead, key-none, key-recall, getD-mapped}
 use Rattle.tables.specs.Kinds.{isLive, isChild, isRecall}
 
@@ -35,7 +33,7 @@ abbrev pub oneRecall : Tables → Name → Ticket → Bool
 oneRecall t n k = everyTicket isRecall (λ m other. implies (eqName (other .other) (k .other)) (eqName m n)) t
 
 abbrev pub hasRecall : Tables → Name → Ticket → Bool
-hasRecall t n k = someTicket isRecall (λ m recall. eqName (recall .other) n) t
+hasRecall t n k = isRecalled t n
 
 -- ---- one key
 -- a ticket's key by cases
@@ -145,18 +143,6 @@ module _ (t : Tables) (numbers : List ℕ) (ix : Numbered t numbers) where
           (omega (arith, d, fa .program, fa .number, fb .program, fb .number))
           (omega (arith, d, fa .program, fa .number, fb .program, fb .number))
 
--- a live entry is found by its name
-entry-found : (t : Tables) (i : ℕ) → i < length (t .entries) → getD (t .entries) i noEntry .live ≡ true → entryOf t (getD (t .entries) i noEntry .name) .live ≡ true
-unfolding entryIn isNamed
-entry-found t i b l = found-somewhere entryKeys entryLaws (t .entries) i b l
-
-hang : (live under : Bool) (a b : Bool) → (live ≡ true → a ≡ b) → implies (live && under) a ≡ implies live (implies under b)
-unfolding implies
-hang true true a b e = e refl
-hang true false a b e = refl
-hang false true a b e = refl
-hang false false a b e = refl
-
 module _ (t : Tables) (ks : List Ticket) (lasts numbers : List ℕ) (flat : Flattened t ks lasts) (ix : Numbered t numbers) where
   abbrev pub keys : List ℕ
   keys = map (targetKey numbers) ks
@@ -264,57 +250,64 @@ module _ (t : Tables) (ks : List Ticket) (lasts numbers : List ℕ) (flat : Flat
       = key-at (w .at) (w .low) ∙ sym (key-recall numbers k (w .kind)) ∙ sym (key-place (placeIn numbers (k .other)) (k .other) (omega (arith, y, h))) ∙ y in
       some-intro 0 (λ key. eqb key p) keys (w .at) (subst (λ (m : ℕ). w .at < m) (sym keys-long) (w .low)) (eq-eqb (getD keys (w .at) 0) p z)
 
-  pub children-recalled : (marks : List ℕ) → ((p : ℕ) → p < 256 → eqb (getD marks p 0) 1 ≡ some (λ key. eqb key p) keys)
-      → allAt (childMarked marks) 0 ks ≡ everyTicket isChild (hasRecall t) t
-  unfolding childMarked
-  children-recalled marks told =
-      both-ways (allAt (childMarked marks) 0 ks) (everyTicket isChild (hasRecall t) t)
-      (λ e. placed-every t (ix .sized) isChild (hasRecall t) (λ p h c. key-recalls p h (sym (told p h) ∙ marked e p h c)))
-      (λ e. allAt-intro free (childMarked marks) ks (λ p l. let h : p < 256 = subst (λ (m : ℕ). p < m) (flat .long) l in unmarked e p h))
-    where
-      marked : allAt (childMarked marks) 0 ks ≡ true → (p : ℕ) → p < 256 → isChild (placed t p .kind) ≡ true → eqb (getD marks p 0) 1 ≡ true
-      marked e p h =
-          implies-elim (isChild (placed t p .kind)) (eqb (getD marks p 0) 1)
-          (subst (λ (k : Ticket). childMarked marks p k ≡ true) (flat .same p h)
-          (allAt-elim free (childMarked marks) ks e p (subst (λ (m : ℕ). p < m) (sym (flat .long)) h)))
+  -- where the marks tell which places are keys, marked places decide who has a recall
+  module _ (marks : List ℕ) (told : (p : ℕ) → p < 256 → isMarked marks p ≡ some (λ key. eqb key p) keys) where
+    pub children-recalled : (children : List ℕ) → TicketsListed (λ k. isChild (k .kind)) ks children
+        → all (isMarked marks) children ≡ everyTicket isChild (hasRecall t) t
+    children-recalled children listing =
+        both-ways (all (isMarked marks) children) (everyTicket isChild (hasRecall t) t)
+        (λ e. placed-every t (ix .sized) isChild (hasRecall t) (λ p h c. key-recalls p h (sym (told p h) ∙ marked e p h c)))
+        (λ e. all-intro 0 (isMarked marks) children (λ j h. recalled e (getD children j 0) (listing .low j h) (listing .passes j h)))
+      where
+        marked : all (isMarked marks) children ≡ true → (p : ℕ) → p < 256 → isChild (placed t p .kind) ≡ true → isMarked marks p ≡ true
+        marked e p h c =
+            listed-all free (λ k. isChild (k .kind)) ks 256 children (length children) listing (λ q. isMarked marks q ≡ true)
+            (all-elim 0 (isMarked marks) children e) p h (ap (λ (k : Ticket). isChild (k .kind)) (flat .same p h) ∙ c)
 
-      unmarked : everyTicket isChild (hasRecall t) t ≡ true → (p : ℕ) → p < 256 → childMarked marks p (getD ks p free) ≡ true
-      unmarked e p h =
-          subst (λ (k : Ticket). childMarked marks p k ≡ true) (sym (flat .same p h))
-          (implies-intro (isChild (placed t p .kind)) (eqb (getD marks p 0) 1)
-          (λ c. told p h ∙ recalls-key p h (live-child (placed t p .kind) c) (every-placed t (ix .sized) isChild (hasRecall t) e p h c)))
+        recalled : everyTicket isChild (hasRecall t) t ≡ true → (p : ℕ) → p < 256 → isChild (getD ks p free .kind) ≡ true → isMarked marks p ≡ true
+        recalled e p h k =
+            let c : isChild (placed t p .kind) ≡ true = ap (λ (x : Ticket). isChild (x .kind)) (sym (flat .same p h)) ∙ k in
+            told p h ∙ recalls-key p h (live-child (placed t p .kind) c) (every-placed t (ix .sized) isChild (hasRecall t) e p h c)
 
-  -- ---- "every entry below another has exactly one live recall naming it"
-  module _ (marks : List ℕ) (told : (p : ℕ) → p < 256 → eqb (getD marks p 0) 1 ≡ some (λ key. eqb key p) keys)
-      (granted : (n : Name) → entryOf t n .live ≡ true → placeIn numbers n < 256) where
     -- a mark at the place of a name tells whether a recall names it
-    marked-recalled : (n : Name) → placeIn numbers n < 256 → nameMarked marks numbers n ≡ isRecalled t n
+    marked-recalled : (n : Name) → placeIn numbers n < 256 → isMarked marks (placeIn numbers n) ≡ isRecalled t n
     marked-recalled n h =
         let p = placeIn numbers n in
         let f = place-found t numbers ix n h in
-        ap (λ (b : Bool). b && eqb (getD marks p 0) 1) (lt-ltb p 256 h) ∙ told p h
+        told p h
         ∙ both-ways (some (λ key. eqb key p) keys) (isRecalled t n)
         (λ e. subst (λ (m : Name). isRecalled t m ≡ true) (f .name) (key-recalls p h e))
         (λ e. recalls-key p h (f .live) (subst (λ (m : Name). isRecalled t m ≡ true) (sym (f .name)) e))
 
-    asks : Entry → Bool
-    asks e = implies (e .live) (implies (not (underStore e)) (isRecalled t (e .name)))
-
-    each-hung : (i : ℕ) → i < length (t .entries) → hungMarked marks numbers i (getD (t .entries) i noEntry) ≡ asks (getD (t .entries) i noEntry)
-    unfolding hungMarked asks
-    each-hung i b = go (case (getD (t .entries) i noEntry .live))
+    pub received-recalled : length (t .entries) ≡ 256 → (received : List ℕ) → ReceivedListed numbers (t .entries) received
+        → all (isMarked marks) received ≡ everyEntry (λ e. implies (not (underStore e)) (isRecalled t (e .name))) t
+    unfolding everyEntry
+    received-recalled long received listing =
+        both-ways (all (isMarked marks) received) (all asks (t .entries))
+        (λ e. all-intro noEntry asks (t .entries)
+        (λ i b. implies-intro (entry i .live) _ (λ l. implies-intro (not (underStore (entry i))) _ (λ u. recalled e i (omega (arith, b, long)) (and-intro l u)))))
+        (λ e. all-intro 0 (isMarked marks) received (λ j h. marked e (getD received j 0) (listing .low j h) (listing .from j h)))
       where
-        e : Entry
-        e = getD (t .entries) i noEntry
+        asks : Entry → Bool
+        asks e = implies (e .live) (implies (not (underStore e)) (isRecalled t (e .name)))
 
-        go : Case (e .live) → implies (e .live && not (underStore e)) (nameMarked marks numbers (e .name))
-            ≡ implies (e .live) (implies (not (underStore e)) (isRecalled t (e .name)))
-        go (fail l) = hang (e .live) (not (underStore e)) _ _ (λ q. no-true (sym l ∙ q))
-        go (pass l) = hang (e .live) (not (underStore e)) _ _ (λ q. marked-recalled (e .name) (granted (e .name) (entry-found t i b l)))
+        entry : ℕ → Entry
+        entry i = getD (t .entries) i noEntry
 
-    pub hung-recalled : allAt (hungMarked marks numbers) 0 (t .entries) ≡ everyEntry (λ e. implies (not (underStore e)) (isRecalled t (e .name))) t
-    unfolding everyEntry asks
-    hung-recalled =
-        both-ways (allAt (hungMarked marks numbers) 0 (t .entries)) (all asks (t .entries))
-        (λ h. all-intro noEntry asks (t .entries) (λ i b. sym (each-hung i b) ∙ allAt-elim noEntry (hungMarked marks numbers) (t .entries) h i b))
-        (λ h. allAt-intro noEntry (hungMarked marks numbers) (t .entries) (λ i b. each-hung i b ∙ all-elim noEntry asks (t .entries) h i b))
+        recalled : all (isMarked marks) received ≡ true → (i : ℕ) → i < 256 → isHung (entry i) ≡ true → isRecalled t (entry i .name) ≡ true
+        recalled e i b u =
+            let s = listing .all i b u in
+            let low : placeIn numbers (entry i .name) < 256 = subst (λ (p : ℕ). p < 256) (s .here) (listing .low (s .at) (s .low)) in
+            sym (marked-recalled (entry i .name) low)
+            ∙ subst (λ (p : ℕ). isMarked marks p ≡ true) (s .here) (all-elim 0 (isMarked marks) received e (s .at) (s .low))
+
+        marked : all asks (t .entries) ≡ true → (p : ℕ) → p < 256 → Source noEntry isHung (λ e. placeIn numbers (e .name)) (t .entries) 256 p
+            → isMarked marks p ≡ true
+        marked e p h s =
+            let x = entry (s .at) in
+            let l : x .live ≡ true = and-l (x .live) (not (underStore x)) (s .passes) in
+            let u : not (underStore x) ≡ true = and-r (x .live) (not (underStore x)) (s .passes) in
+            let asked = all-elim noEntry asks (t .entries) e (s .at) (omega (arith, s .low, long)) in
+            subst (λ (q : ℕ). isMarked marks q ≡ true) (s .here)
+            (marked-recalled (x .name) (omega (arith, s .here, h))
+            ∙ implies-elim (not (underStore x)) (isRecalled t (x .name)) (implies-elim (x .live) _ asked l) u)

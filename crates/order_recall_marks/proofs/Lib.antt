@@ -1,4 +1,3 @@
 mod Seen
 mod KeySteps
 pub mod Laws
-pub mod Hung

@@ -1,16 +1,15 @@
 -- Keys of recalls' targets, and the marks of the places among them.
 use Prim.Native.Nat.{ℕ, _+_, _*_, _<_}
 use mathlib.Core.Path.{_≡_}
-use mathlib.Core.Bool.{Bool, true, not, _&&_, cond}
+use mathlib.Core.Bool.{Bool, true, not, cond}
 use mathlib.Core.List.{List}
 use lib.Dec.{eqb, ltb}
 use lib.ListN.{length, getD}
-use Rattle.lists.specs.Tests.{implies}
 use Rattle.lists.specs.Lists.{some, noTwo}
-use Rattle.tables.specs.declared.{Name.Name, Ticket.Ticket, Entry.Entry}
-use Rattle.tables.specs.Kinds.{isChild, isRecall}
+use Rattle.tables.specs.declared.{Name.Name, Ticket.Ticket}
+use Rattle.tables.specs.Kinds.{isRecall}
 use Rattle.image_places.specs.Places.{placeIn}
-use Rattle.order_lists.specs.Listing.{Listing, isHung}
+use Rattle.order_lists.specs.Listing.{Listing}
 
 -- the key of a target: its place, or where it has none a number above 256 of its own
 unfoldable pub keyOf : ℕ → Name → ℕ
@@ -30,19 +29,11 @@ isDead key = ltb 256 key
 abbrev pub KeysListed : List ℕ → List ℕ → Type 0
 KeysListed keys places = Listing 256 (λ key. not (eqb key 256)) keys 256 places (length places)
 
+-- the place p is marked
+abbrev pub isMarked : List ℕ → ℕ → Bool
+isMarked marks p = eqb (getD marks p 0) 1
+
 -- what marking the places tells: whether none stands twice among the keys, and if so, which of them stand there
 pub record Marked (keys marks : List ℕ) (r : Bool) : Type 0 where
   pub once : r ≡ noTwo isPlace eqb keys
-  pub told : r ≡ true → (p : ℕ) → p < 256 → eqb (getD marks p 0) 1 ≡ some (λ key. eqb key p) keys
-
--- the ticket at the place p, if a child, is marked
-unfoldable pub childMarked : List ℕ → ℕ → Ticket → Bool
-childMarked marks p k = implies (isChild (k .kind)) (eqb (getD marks p 0) 1)
-
--- the name has a place, and that is marked
-abbrev pub nameMarked : List ℕ → List ℕ → Name → Bool
-nameMarked marks numbers n = ltb (placeIn numbers n) 256 && eqb (getD marks (placeIn numbers n) 0) 1
-
--- the entry e, if it hangs under another, names a ticket whose place is marked
-unfoldable pub hungMarked : List ℕ → List ℕ → ℕ → Entry → Bool
-hungMarked marks numbers p e = implies (isHung e) (nameMarked marks numbers (e .name))
+  pub told : r ≡ true → (p : ℕ) → p < 256 → isMarked marks p ≡ some (λ key. eqb key p) keys

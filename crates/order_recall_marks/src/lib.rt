@@ -1,16 +1,15 @@
-// "No target has two recalls; every child has one": a test of the targets' keys, one for each place.
+// "No target has two recalls; every child has one", and so has every entry below another: a test of the targets' keys, one for each place.
 // A key below 256 is the place of a live target, a key above 256 names a target without a place, and 256 stands where there is no recall.
 ghost use mathlib.Core.Path.{_≡_};
-ghost use mathlib.Core.List.{List, map};
+ghost use mathlib.Core.List.{map};
 ghost use lib.Dec.{eqb};
 ghost use lib.ListN.{length, replicate};
-ghost use Rattle.lists.specs.Lists.{some, noTwo, allAt};
-ghost use Rattle.tables.specs.Kinds.{isChild, isRecall};
+ghost use Rattle.lists.specs.Lists.{all, some, noTwo};
+ghost use Rattle.tables.specs.Kinds.{isRecall};
 ghost use Rattle.image.specs.Layout.{imageSize};
-ghost use Rattle.image_read.specs.Places.{ticketsIn, entriesIn};
-ghost use Rattle.order_lists.specs.Listing.{TicketsListed, EntriesListed, AllBelow, isHung};
-ghost use Rattle.order_recall_marks.specs.Keys.{keyOf, targetKey, isDead, KeysListed, Marked, childMarked, nameMarked, hungMarked};
-use tables::Entry;
+ghost use Rattle.image_read.specs.Places.{ticketsIn};
+ghost use Rattle.order_lists.specs.Listing.{TicketsListed, AllBelow};
+ghost use Rattle.order_recall_marks.specs.Keys.{keyOf, targetKey, isDead, KeysListed, Marked, isMarked};
 use tables::Name;
 use tables::Ticket;
 
@@ -110,46 +109,16 @@ pub fn dead_once(keys: &[usize; 256], recalls: &[u16]) -> bool
     true
 }
 
-// Every child's place is marked.
-pub fn children_marked(children: &[u16], marks: &[u8; 256]) -> bool
-    requires { ⌜ AllBelow 256 (now children) ⌝ }
-    ensures { λ r. ⌜ ((tickets : List Ticket) → length tickets ≡ 256 → TicketsListed (λ k. isChild (k .kind)) tickets (now (children .entry)) → r ≡ allAt (childMarked (now (marks .entry))) 0 tickets) ⌝ }
+// Each of the places is marked.
+pub fn all_marked(places: &[u16], marks: &[u8; 256]) -> bool
+    requires { ⌜ AllBelow 256 (now places) ⌝ }
+    ensures { λ r. ⌜ r ≡ all (isMarked (now (marks .entry))) (now (places .entry)) ⌝ }
 {
     let mut i: usize = 0;
-    while i < children.len() {
-        let at = image_places::wide(children[i]);
+    while i < places.len() {
+        let at = image_places::wide(places[i]);
         i = i + 1;
         if marks[at] != 1 {
-            return false;
-        }
-    }
-    true
-}
-
-// Is the place of the ticket that the entry names marked?
-fn entry_marked(numbers: &[u16], marks: &[u8; 256], e: Entry) -> bool
-    requires { ⌜ length (now numbers) ≡ 256 ⌝ }
-    ensures { λ r. ⌜ r ≡ nameMarked (now (marks .entry)) (now (numbers .entry)) (e .name) ⌝ }
-{
-    let n = e.name;
-    let p = image_places::place_of(numbers, n);
-    if 256 <= p {
-        return false;
-    }
-    marks[p] == 1
-}
-
-// Every entry that hangs under another has its name's place marked.
-pub fn hung_marked(image: &[u8], numbers: &[u16], hung: &[u16], marks: &[u8; 256]) -> bool
-    requires { ⌜ (length (now image) ≡ imageSize) × ((length (now numbers) ≡ 256) × EntriesListed isHung (entriesIn (now image)) (now hung)) ⌝ }
-    ensures { λ r. ⌜ r ≡ allAt (hungMarked (now (marks .entry)) (now (numbers .entry))) 0 (entriesIn (now (image .entry))) ⌝ }
-{
-    let mut i: usize = 0;
-    while i < hung.len() {
-        let at = image_places::wide(hung[i]);
-        i = i + 1;
-        let e = image_read::entry_at(image, at);
-        if !entry_marked(numbers, marks, e) {
             return false;
         }
     }

@@ -1,4 +1,4 @@
--- T6 in tables without a recall: there is no child.
+-- T6 in tables without a recall, a child or an entry under another.
 use Prim.Native.Nat.{ℕ, _<_}
 use native.Mathlib.Omega.{arith}
 use mathlib.Core.Path.{_≡_, sym, ap, subst, _∙_}
@@ -17,14 +17,14 @@ use Rattle.image_read.specs.Places.{ticketsIn, entriesIn}
 use Rattle.image_read.proofs.Places.{entries-long}
 use Rattle.image_places.specs.Places.{placed}
 use Rattle.image_places.proofs.Laws.{placed-every}
-use Rattle.order_lists.specs.Listing.{TicketsListed, EntriesListed, isHung}
+use Rattle.order_lists.specs.Listing.{Spot, TicketsListed, ReceivedListed, isHung}
 use Rattle.order_lists.proofs.Laws.{none-listed}
 use Rattle.order_recall_marks.proofs.Laws.{hasRecall}
 use Rattle.order_recalls.specs.Recalls.{LaidOut}
 
-module _ {t : Tables} {image numbers notes : List ℕ} (ix : LaidOut t image numbers notes) (children recalls hung : List ℕ)
+module _ {t : Tables} {image numbers notes : List ℕ} (ix : LaidOut t image numbers notes) (children recalls received : List ℕ)
     (under : TicketsListed (λ k. isChild (k .kind)) (ticketsIn image) children) (back : TicketsListed (λ k. isRecall (k .kind)) (ticketsIn image) recalls)
-    (below : EntriesListed isHung (entriesIn image) hung) (none : length recalls ≡ 0) (childless : length children ≡ 0) (unhung : length hung ≡ 0) where
+    (grants : ReceivedListed numbers (entriesIn image) received) (none : length recalls ≡ 0) (childless : length children ≡ 0) (unlent : length received ≡ 0) where
   no-recall : (p : ℕ) → p < 256 → isRecall (placed t p .kind) ≡ true → ⊥
   no-recall p h r =
       none-listed free (λ k. isRecall (k .kind)) (ticketsIn image) 256 recalls (length recalls) back none p h
@@ -43,9 +43,11 @@ module _ {t : Tables} {image numbers notes : List ℕ} (ix : LaidOut t image num
   no-hung i b =
       implies-intro (getD (t .entries) i noEntry .live) _
       (λ l. implies-intro (not (underStore (getD (t .entries) i noEntry))) _
-      (λ z. absurd
-      (none-listed noEntry isHung (entriesIn image) 256 hung (length hung) below unhung i (omega (arith, b, ap length (ix .entries), entries-long image))
-      (subst (λ (es : List Entry). isHung (getD es i noEntry) ≡ true) (sym (ix .entries)) (and-intro l z)))))
+      (λ u. absurd (nobody (grants .all i (omega (arith, b, ap length (ix .entries), entries-long image))
+      (subst (λ (es : List Entry). isHung (getD es i noEntry) ≡ true) (sym (ix .entries)) (and-intro l u))))))
+    where
+      nobody : {p : ℕ} → Spot received (length received) p → ⊥
+      nobody s = omega (arith, s .low, unlent)
 
   pub no-recalls : true ≡ t6 t
   unfolding t6 everyEntry asks

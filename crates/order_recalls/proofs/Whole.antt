@@ -2,29 +2,26 @@
 use Prim.Native.Nat.{ℕ, _+_, _<_}
 use native.Mathlib.Omega.{arith}
 use mathlib.Core.Path.{_≡_, refl, sym, ap, subst, _∙_}
-use native.Mathlib.Nat.{eq-or-lt-of-le}
-use mathlib.Core.Logic.{_⊎_, inl, inr}
 use mathlib.Core.Bool.{Bool, true, false, not, _&&_}
 use mathlib.Core.List.{List, map}
 use lib.Dec.{eqb}
-use lib.ListN.{getD, drop}
+use lib.ListN.{length, getD, drop}
 use lib.Seq.{getD-drop}
-use Rattle.lists.specs.Lists.{some, noTwo, allAt}
-use Rattle.lists.proofs.Tests.{no-true, both-ways, not-pass, and-l, and-r, and-intro}
-use Rattle.tables.specs.declared.{Name.Name, Ticket.Ticket, Entry.Entry, Tables.Tables}
-use Rattle.tables.specs.Lookup.{entryOf}
+use Rattle.lists.specs.Lists.{all, some, noTwo}
+use Rattle.lists.proofs.Tests.{both-ways, not-pass, and-l, and-r, and-intro}
+use Rattle.tables.specs.declared.{Ticket.Ticket, Entry.Entry, Tables.Tables}
 use Rattle.lists.specs.Tests.{implies}
-use Rattle.image_places.specs.Places.{placeIn}
 use Rattle.tables.specs.Names.{free}
 use Rattle.tables.specs.Order.{everyTicket, everyEntry, underStore, isRecalled, recallOk, t6}
 use Rattle.tables.proofs.Fits.{NameFits}
 use Rattle.image.specs.Numbers.{numberAt}
 use Rattle.image.specs.Image.{readTicket, ticketStart}
 use Rattle.image_read.specs.Places.{ticketsIn, lastsIn, entriesIn}
-use Rattle.image_read.proofs.Places.{ticket-here}
-use Rattle.image_places.proofs.Laws.{every-placed, placed-every, place-most}
-use Rattle.order_recall_marks.specs.Keys.{targetKey, isPlace, isDead, Marked, childMarked, hungMarked}
-use Rattle.order_recall_marks.proofs.Laws.{oneRecall, hasRecall, once-keys, keys-once, children-recalled, hung-recalled}
+use Rattle.image_read.proofs.Places.{ticket-here, entries-long}
+use Rattle.order_lists.specs.Listing.{TicketsListed, ReceivedListed}
+use Rattle.image_places.proofs.Laws.{every-placed, placed-every}
+use Rattle.order_recall_marks.specs.Keys.{targetKey, isPlace, isDead, Marked, isMarked}
+use Rattle.order_recall_marks.proofs.Laws.{oneRecall, hasRecall, once-keys, keys-once, children-recalled, received-recalled}
 use Rattle.order_recalls.specs.Recalls.{LaidOut, recallHolds}
 use Rattle.tables.specs.Kinds.{isChild, isRecall}
 
@@ -78,14 +75,6 @@ module _ {t : Tables} {image numbers notes : List ℕ} (ix : LaidOut t image num
   pub not-each : each ≡ false → false ≡ t6 t
   not-each e = sym (by-part ∙ ap (λ (b : Bool). b && once && recalled && lent) e)
 
-  -- a live entry's name has a place: a name without one has no entry
-  granted : (n : Name) → entryOf t n .live ≡ true → placeIn numbers n < 256
-  granted n l = go (eq-or-lt-of-le (place-most t numbers (ix .numbered) n))
-    where
-      go : (placeIn numbers n ≡ 256) ⊎ (placeIn numbers n < 256) → placeIn numbers n < 256
-      go (inr h) = h
-      go (inl e) = no-true (ap (λ (d : Entry). d .live) (sym (ix .noted .nowhere n e)) ∙ l)
-
   module _ (fits : (p : ℕ) → p < 256 → NameFits (getD (ticketsIn image) p free .other)) {keys : List ℕ} (keyed : keys ≡ map (targetKey numbers) (ticketsIn image)) where
     not-once : (counts : ℕ → Bool) → counts 256 ≡ false → noTwo counts eqb keys ≡ false → false ≡ t6 t
     not-once counts none e =
@@ -100,27 +89,27 @@ module _ {t : Tables} {image numbers notes : List ℕ} (ix : LaidOut t image num
     two-dead = not-once isDead refl
 
     -- where each recall holds and no target has two, the marks decide
-    module _ (all : each ≡ true) (marks : List ℕ) (m : Marked keys marks true) (dead : noTwo isDead eqb keys ≡ true) where
-      told : (p : ℕ) → p < 256 → eqb (getD marks p 0) 1 ≡ some (λ key. eqb key p) (map (targetKey numbers) (ticketsIn image))
+    module _ (held : each ≡ true) (marks : List ℕ) (m : Marked keys marks true) (dead : noTwo isDead eqb keys ≡ true) where
+      told : (p : ℕ) → p < 256 → isMarked marks p ≡ some (λ key. eqb key p) (map (targetKey numbers) (ticketsIn image))
       told p h = m .told refl p h ∙ ap (some (λ key. eqb key p)) keyed
 
       by-marks : t6 t ≡ (recalled && lent)
       by-marks =
-          by-part ∙ ap (λ (b : Bool). b && once && recalled && lent) all
+          by-part ∙ ap (λ (b : Bool). b && once && recalled && lent) held
           ∙ ap (λ (b : Bool). b && recalled && lent)
           (keys-once t (ticketsIn image) (lastsIn image) numbers (ix .flat) (ix .numbered) fits
           (ap (noTwo isPlace eqb) (sym keyed) ∙ sym (m .once)) (ap (noTwo isDead eqb) (sym keyed) ∙ dead))
 
-      children : allAt (childMarked marks) 0 (ticketsIn image) ≡ recalled
-      children = children-recalled t (ticketsIn image) (lastsIn image) numbers (ix .flat) (ix .numbered) marks told
+      children-marked : (children : List ℕ) → TicketsListed (λ k. isChild (k .kind)) (ticketsIn image) children → all (isMarked marks) children ≡ recalled
+      children-marked = children-recalled t (ticketsIn image) (lastsIn image) numbers (ix .flat) (ix .numbered) marks told
 
-      hung : allAt (hungMarked marks numbers) 0 (entriesIn image) ≡ lent
-      hung =
-          ap (allAt (hungMarked marks numbers) 0) (ix .entries)
-          ∙ hung-recalled t (ticketsIn image) (lastsIn image) numbers (ix .flat) (ix .numbered) marks told granted
+      pub child-unmarked : (children : List ℕ) → TicketsListed (λ k. isChild (k .kind)) (ticketsIn image) children
+          → all (isMarked marks) children ≡ false → false ≡ t6 t
+      child-unmarked children listing e = sym (by-marks ∙ ap (λ (b : Bool). b && lent) (sym (children-marked children listing) ∙ e))
 
-      pub child-unmarked : allAt (childMarked marks) 0 (ticketsIn image) ≡ false → false ≡ t6 t
-      child-unmarked e = sym (by-marks ∙ ap (λ (b : Bool). b && lent) (sym children ∙ e))
-
-      pub whole : allAt (childMarked marks) 0 (ticketsIn image) ≡ true → allAt (hungMarked marks numbers) 0 (entriesIn image) ≡ t6 t
-      whole e = hung ∙ sym (by-marks ∙ ap (λ (b : Bool). b && lent) (sym children ∙ e))
+      pub whole : (children received : List ℕ) → TicketsListed (λ k. isChild (k .kind)) (ticketsIn image) children
+          → ReceivedListed numbers (entriesIn image) received → all (isMarked marks) children ≡ true → all (isMarked marks) received ≡ t6 t
+      whole children received listing grants e =
+          received-recalled t (ticketsIn image) (lastsIn image) numbers (ix .flat) (ix .numbered) marks told (ap length (sym (ix .entries)) ∙ entries-long image) received
+          (subst (λ (es : List Entry). ReceivedListed numbers es received) (ix .entries) grants)
+          ∙ sym (by-marks ∙ ap (λ (b : Bool). b && lent) (sym (children-marked children listing) ∙ e))

@@ -16,7 +16,7 @@ ghost use Rattle.tables.specs.Order.{everyTicket, t6};
 ghost use Rattle.image.specs.Layout.{imageSize};
 ghost use Rattle.image_places.specs.Places.{nameAt};
 ghost use Rattle.image_read.specs.Places.{ticketsIn, lastsIn, entriesIn};
-ghost use Rattle.order_lists.specs.Listing.{TicketsListed, EntriesListed, isHung};
+ghost use Rattle.order_lists.specs.Listing.{TicketsListed, ReceivedListed};
 ghost use Rattle.order_recall_marks.specs.Keys.{targetKey};
 ghost use Rattle.order_recalls.specs.Recalls.{LaidOut, recallHolds};
 use tables::Name;
@@ -144,20 +144,20 @@ fn all_none(a: usize, b: usize, c: usize) -> bool
     c == 0
 }
 
-// T6, in tables whose numbers are distinct (T1) and whose entries are noted at their grants' places. Where there is no recall, no child and no
-// entry under another, there is nothing to test.
+// T6, in tables whose numbers are distinct (T1) and whose entries are noted at their grants' places. Children, and the grants that entries
+// under others name, need a recall. Where there are none of these and no recall, there is nothing to test.
 pub fn recalls_ok(
     image: &[u8],
     numbers: &[u16],
     notes: &[u16],
     children: &[u16],
     recalls: &[u16],
-    hung: &[u16],
+    received: &[u16],
 ) -> bool
-    requires { ⌜ (length (now image) ≡ imageSize) × ((length (now numbers) ≡ 256) × ((length (now notes) ≡ 256) × ((TicketsListed (λ k. isChild (k .kind)) (ticketsIn (now image)) (now children) × TicketsListed (λ k. isRecall (k .kind)) (ticketsIn (now image)) (now recalls)) × EntriesListed isHung (entriesIn (now image)) (now hung)))) ⌝ }
+    requires { ⌜ (length (now image) ≡ imageSize) × ((length (now numbers) ≡ 256) × ((length (now notes) ≡ 256) × ((TicketsListed (λ k. isChild (k .kind)) (ticketsIn (now image)) (now children) × TicketsListed (λ k. isRecall (k .kind)) (ticketsIn (now image)) (now recalls)) × ReceivedListed (now numbers) (entriesIn (now image)) (now received)))) ⌝ }
     ensures { λ r. ⌜ ((t : Tables) → LaidOut t (now (image .entry)) (now (numbers .entry)) (now (notes .entry)) → r ≡ t6 t) ⌝ }
 {
-    if all_none(recalls.len(), children.len(), hung.len()) {
+    if all_none(recalls.len(), children.len(), received.len()) {
         return true;
     }
     let mut keys: [usize; 256] = [256; 256];
@@ -172,8 +172,8 @@ pub fn recalls_ok(
     if !order_recall_marks::dead_once(&keys, recalls) {
         return false;
     }
-    if !order_recall_marks::children_marked(children, &marks) {
+    if !order_recall_marks::all_marked(children, &marks) {
         return false;
     }
-    order_recall_marks::hung_marked(image, numbers, hung, &marks)
+    order_recall_marks::all_marked(received, &marks)
 }

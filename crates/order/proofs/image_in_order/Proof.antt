@@ -1,7 +1,9 @@
 -- The first rule that is broken settles the answer; where none is, T6 does. p says that the kinds are among the five and that T1, T2 and T4
 -- hold, x what the pass over the tickets leaves, ix that the numbers are an index of the names, e what T5 says.
+use Prim.Native.Nat.{ℕ}
 use native.Mathlib.Omega.{arith}
 use mathlib.Core.Path.{refl, sym, _∙_}
+use lib.ListN.{length-replicate}
 use lib.Seq.{length-take-le}
 use borrow.Author.Needs.{needs}
 use borrow.Author.Tests.{not-false}
@@ -10,6 +12,7 @@ use Rattle.image.specs.Image.{decode}
 use Rattle.image_read.proofs.Places.{entries-decoded}
 use Rattle.image_find.proofs.Laws.{flattened, decoded-sized}
 use Rattle.order_lists.proofs.Laws.{listed-front}
+use Rattle.order_lists.proofs.Values.{values-front}
 use Rattle.order.proofs.Numbered.{numbered}
 use Rattle.order_programs.proofs.ThreeRules.{rule-1, rule-2}
 use Rattle.order.proofs.Rules.{programs-broken, chains-broken, entries-broken, rules, last-rule}
@@ -92,35 +95,36 @@ slice-aggregate-entries-ok-2 c =
 slice-aggregate-entries-ok-3 : tie.Need-slice-aggregate-entries-ok-3
 slice-aggregate-entries-ok-3 c = search needs
 
+slice-aggregate-entries-ok-4 : tie.Need-slice-aggregate-entries-ok-4
+slice-aggregate-entries-ok-4 c = search needs
+
 entries-ok-requires : tie.Need-entries-ok-requires
 entries-ok-requires c κs =
-    let c7 = c .before .before .before .before .before .before .before in
-    let c13 = c7 .before .before .before .before .before .before in
-    let c19 = c13 .before .before .before .before .before .before in
-    let x = c13 .programs-ok .ensures .1 (not-false _ (c7 .if1 .left)) in (
-      c19 .pre,
+    let programs = c .before .before .before .before .before .before .before .before .before .before .before .before .before .before .programs-ok in
+    let s = c .before .before .before .before .before .before .before .before .before .before .before .before .before .before .before .before .before .before .before .before in
+    let x = programs .ensures .1 (not-false _ (c .before .before .before .before .before .before .before .before .if1 .left)) in (
+      s .pre,
       (
-        omega (arith, c13 .programs-ok .kept .1 .0),
+        omega (arith, programs .kept .1 .0),
         (
           listed-front _ _ _ _ _ _ (x .takenListed)
-              (omega (arith, x .takenListed .most, c13 .programs-ok .kept .1 .1 .0)),
-          refl,
+              (omega (arith, x .takenListed .most, programs .kept .1 .1 .0)),
+          (refl, length-replicate {A = ℕ} 256 0),
         ),
       ),
     )
 
 returns-3 : tie.Need-returns-3
 returns-3 c =
-    let c10 = c .before .before .before .before .before .before .before .before .before .before in
-    let c16 = c10 .before .before .before .before .before .before in
-    let c22 = c16 .before .before .before .before .before .before in
-    let image = c22 .args .image .now in
-    let good = not-false _ (c10 .if1 .left) in
-    let p = sym (c16 .programs-ok .ensures .0 (decode image) (decoded-sized image) (flattened image)) ∙ good in
-    let ix = numbered (decode image) (decoded-sized image) (rule-1 (decode image) (rules image (c22 .pre) (decode image) p)) _ _ (flattened image) _
-    (c16 .programs-ok .ensures .1 good .written) in
-    let e = c .before .before .entries-ok .ensures (decode image) (flattened image) (entries-decoded image) ix (rule-2 (decode image) (rules image (c22 .pre) (decode image) p)) in
-    entries-broken image (c22 .pre) (decode image) (failed (e .same) (c .if3 .taken))
+    let programs = c .before .before .before .before .before .before .before .before .before .before .before .before .before .before .before .before .before .before .before .programs-ok in
+    let s = c .before .before .before .before .before .before .before .before .before .before .before .before .before .before .before .before .before .before .before .before .before .before .before .before .before in
+    let image = s .args .image .now in
+    let good = not-false _ (c .before .before .before .before .before .before .before .before .before .before .before .before .before .if1 .left) in
+    let p = sym (programs .ensures .0 (decode image) (decoded-sized image) (flattened image)) ∙ good in
+    let ix = numbered (decode image) (decoded-sized image) (rule-1 (decode image) (rules image (s .pre) (decode image) p)) _ _ (flattened image) _
+    (programs .ensures .1 good .written) in
+    let e = c .before .before .before .before .entries-ok .ensures .0 (decode image) (flattened image) (entries-decoded image) ix (rule-2 (decode image) (rules image (s .pre) (decode image) p)) in
+    entries-broken image (s .pre) (decode image) (failed (e .same) (c .if3 .taken))
 
 slice-aggregate-recalls-ok : tie.Need-slice-aggregate-recalls-ok
 slice-aggregate-recalls-ok c = search needs
@@ -130,69 +134,69 @@ slice-aggregate-recalls-ok-2 c = search needs
 
 array-share-prefix-children-2 : tie.Need-array-share-prefix-children-2
 array-share-prefix-children-2 c =
-    let c12 = c .before .before .before .before .before .before .before .before .before .before .before .before in
-    let c18 = c12 .before .before .before .before .before .before in
-    let x = c18 .programs-ok .ensures .1 (not-false _ (c12 .if1 .left)) in
+    let x = c .before .before .before .before .before .before .before .before .before .before .before .before .before .before .before .before .before .before .before .before .before .programs-ok .ensures .1 (not-false _ (c .before .before .before .before .before .before .before .before .before .before .before .before .before .before .before .if1 .left)) in
     omega (arith, x .childrenListed .most)
 
 slice-aggregate-recalls-ok-3 : tie.Need-slice-aggregate-recalls-ok-3
 slice-aggregate-recalls-ok-3 c =
-    let c13 = c .before .before .before .before .before .before .before .before .before .before .before .before .before in
-    let c19 = c13 .before .before .before .before .before .before in
-    let x = c19 .programs-ok .ensures .1 (not-false _ (c13 .if1 .left)) in
-    sym (length-take-le (c19 .programs-ok .result .children) (c19 .programs-ok .last .1 .1 .1 .0) (omega (arith, x .childrenListed .most, c19 .programs-ok .kept .1 .1 .1 .0)))
+    let programs = c .before .before .before .before .before .before .before .before .before .before .before .before .before .before .before .before .before .before .before .before .before .before .programs-ok in
+    let x = programs .ensures .1 (not-false _ (c .before .before .before .before .before .before .before .before .before .before .before .before .before .before .before .before .if1 .left)) in
+    sym (length-take-le (programs .result .children) (programs .last .1 .1 .1 .0) (omega (arith, x .childrenListed .most, programs .kept .1 .1 .1 .0)))
 
 array-share-prefix-recalls : tie.Need-array-share-prefix-recalls
 array-share-prefix-recalls c =
-    let c13 = c .before .before .before .before .before .before .before .before .before .before .before .before .before in
-    let c19 = c13 .before .before .before .before .before .before in
-    let x = c19 .programs-ok .ensures .1 (not-false _ (c13 .if1 .left)) in
+    let x = c .before .before .before .before .before .before .before .before .before .before .before .before .before .before .before .before .before .before .before .before .before .before .programs-ok .ensures .1 (not-false _ (c .before .before .before .before .before .before .before .before .before .before .before .before .before .before .before .before .if1 .left)) in
     omega (arith, x .recallsListed .most)
 
 slice-aggregate-recalls-ok-4 : tie.Need-slice-aggregate-recalls-ok-4
 slice-aggregate-recalls-ok-4 c =
-    let c14 = c .before .before .before .before .before .before .before .before .before .before .before .before .before .before in
-    let c20 = c14 .before .before .before .before .before .before in
-    let x = c20 .programs-ok .ensures .1 (not-false _ (c14 .if1 .left)) in
-    sym (length-take-le (c20 .programs-ok .result .recalls) (c20 .programs-ok .last .1 .1 .1 .1 .0)
-    (omega (arith, x .recallsListed .most, c20 .programs-ok .kept .1 .1 .1 .1 .0)))
+    let programs = c .before .before .before .before .before .before .before .before .before .before .before .before .before .before .before .before .before .before .before .before .before .before .before .programs-ok in
+    let x = programs .ensures .1 (not-false _ (c .before .before .before .before .before .before .before .before .before .before .before .before .before .before .before .before .before .if1 .left)) in
+    sym (length-take-le (programs .result .recalls) (programs .last .1 .1 .1 .1 .0) (omega (arith, x .recallsListed .most, programs .kept .1 .1 .1 .1 .0)))
+
+array-share-prefix-received : tie.Need-array-share-prefix-received
+array-share-prefix-received c =
+    let grants = c .before .before .before .before .before .before .before .before .entries-ok .ensures .1 (not-false _ (c .before .before .before .before .if3 .left)) in
+    omega (arith, grants .most)
+
+slice-aggregate-recalls-ok-5 : tie.Need-slice-aggregate-recalls-ok-5
+slice-aggregate-recalls-ok-5 c =
+    let entries = c .before .before .before .before .before .before .before .before .before .entries-ok in
+    let grants = entries .ensures .1 (not-false _ (c .before .before .before .before .before .if3 .left)) in
+    sym (length-take-le (entries .result .received) (entries .last .1 .1 .1 .1 .0) (omega (arith, grants .most, entries .kept .1 .1 .1 .1 .0)))
 
 recalls-ok-requires : tie.Need-recalls-ok-requires
 recalls-ok-requires c κs =
-    let c4 = c .before .before .before .before in
-    let c6 = c4 .before .before in
-    let c14 = c6 .before .before .before .before .before .before .before .before in
-    let c20 = c14 .before .before .before .before .before .before in
-    let c26 = c20 .before .before .before .before .before .before in
-    let image = c26 .args .image .now in
-    let good = not-false _ (c14 .if1 .left) in
-    let x = c20 .programs-ok .ensures .1 good in
-    let p = sym (c20 .programs-ok .ensures .0 (decode image) (decoded-sized image) (flattened image)) ∙ good in
-    let ix = numbered (decode image) (decoded-sized image) (rule-1 (decode image) (rules image (c26 .pre) (decode image) p)) _ _ (flattened image) _ (x .written) in
-    let e = c6 .entries-ok .ensures (decode image) (flattened image) (entries-decoded image) ix (rule-2 (decode image) (rules image (c26 .pre) (decode image) p)) in
-    let under = listed-front _ _ _ _ _ _ (x .childrenListed) (omega (arith, x .childrenListed .most, c20 .programs-ok .kept .1 .1 .1 .0)) in
-    let back = listed-front _ _ _ _ _ _ (x .recallsListed) (omega (arith, x .recallsListed .most, c20 .programs-ok .kept .1 .1 .1 .1 .0)) in
-    (c26 .pre, (omega (arith, c20 .programs-ok .kept .1 .0), (e .noted (not-false _ (c4 .if3 .left)) .long, (under, back))))
+    let programs = c .before .before .before .before .before .before .before .before .before .before .before .before .before .before .before .before .before .before .before .before .before .before .before .before .programs-ok in
+    let entries = c .before .before .before .before .before .before .before .before .before .entries-ok in
+    let s = c .before .before .before .before .before .before .before .before .before .before .before .before .before .before .before .before .before .before .before .before .before .before .before .before .before .before .before .before .before .before in
+    let image = s .args .image .now in
+    let good = not-false _ (c .before .before .before .before .before .before .before .before .before .before .before .before .before .before .before .before .before .before .if1 .left) in
+    let x = programs .ensures .1 good in
+    let p = sym (programs .ensures .0 (decode image) (decoded-sized image) (flattened image)) ∙ good in
+    let ix = numbered (decode image) (decoded-sized image) (rule-1 (decode image) (rules image (s .pre) (decode image) p)) _ _ (flattened image) _ (x .written) in
+    let y = not-false _ (c .before .before .before .before .before .if3 .left) in
+    let e = entries .ensures .0 (decode image) (flattened image) (entries-decoded image) ix (rule-2 (decode image) (rules image (s .pre) (decode image) p)) in
+    let under = listed-front _ _ _ _ _ _ (x .childrenListed) (omega (arith, x .childrenListed .most, programs .kept .1 .1 .1 .0)) in
+    let back = listed-front _ _ _ _ _ _ (x .recallsListed) (omega (arith, x .recallsListed .most, programs .kept .1 .1 .1 .1 .0)) in
+    let grants = entries .ensures .1 y in
+    let lent = values-front _ _ _ _ _ _ _ _ grants (omega (arith, grants .most, entries .kept .1 .1 .1 .1 .0)) in
+    (s .pre, (omega (arith, programs .kept .1 .0), (e .noted y .long, ((under, back), lent))))
 
 returns-4 : tie.Need-returns-4
 returns-4 c =
-    let c5 = c .before .before .before .before .before in
-    let c7 = c5 .before .before in
-    let c11 = c7 .before .before .before .before in
-    let c12 = c11 .before in
-    let c15 = c12 .before .before .before in
-    let c21 = c15 .before .before .before .before .before .before in
-    let c27 = c21 .before .before .before .before .before .before in
-    let image = c27 .args .image .now in
-    let good = not-false _ (c15 .if1 .left) in
-    let p = sym (c21 .programs-ok .ensures .0 (decode image) (decoded-sized image) (flattened image)) ∙ good in
-    let ix = numbered (decode image) (decoded-sized image) (rule-1 (decode image) (rules image (c27 .pre) (decode image) p)) _ _ (flattened image) _
-    (c21 .programs-ok .ensures .1 good .written) in
-    let h = passed (c12 .chains-ok .ensures (decode image) (flattened image) ix) (c11 .if2 .left) in
-    let e = c7 .entries-ok .ensures (decode image) (flattened image) (entries-decoded image) ix (rule-2 (decode image) (rules image (c27 .pre) (decode image) p)) in
-    let y = not-false _ (c5 .if3 .left) in
+    let programs = c .before .before .before .before .before .before .before .before .before .before .before .before .before .before .before .before .before .before .before .before .before .before .before .before .before .programs-ok in
+    let s = c .before .before .before .before .before .before .before .before .before .before .before .before .before .before .before .before .before .before .before .before .before .before .before .before .before .before .before .before .before .before .before in
+    let image = s .args .image .now in
+    let good = not-false _ (c .before .before .before .before .before .before .before .before .before .before .before .before .before .before .before .before .before .before .before .if1 .left) in
+    let p = sym (programs .ensures .0 (decode image) (decoded-sized image) (flattened image)) ∙ good in
+    let ix = numbered (decode image) (decoded-sized image) (rule-1 (decode image) (rules image (s .pre) (decode image) p)) _ _ (flattened image) _
+    (programs .ensures .1 good .written) in
+    let h = passed (c .before .before .before .before .before .before .before .before .before .before .before .before .before .before .before .before .chains-ok .ensures (decode image) (flattened image) ix) (c .before .before .before .before .before .before .before .before .before .before .before .before .before .before .before .if2 .left) in
+    let e = c .before .before .before .before .before .before .before .before .before .before .entries-ok .ensures .0 (decode image) (flattened image) (entries-decoded image) ix (rule-2 (decode image) (rules image (s .pre) (decode image) p)) in
+    let y = not-false _ (c .before .before .before .before .before .before .if3 .left) in
     c .recalls-ok .ensures (decode image) (record { flat = flattened image; entries = entries-decoded image; numbered = ix; noted = e .noted y })
-    ∙ last-rule image (c27 .pre) (decode image) p h (sym (e .same) ∙ y)
+    ∙ last-rule image (s .pre) (decode image) p h (sym (e .same) ∙ y)
 
 pub image-in-order-spec : {M : Type 1} → statement M
 image-in-order-spec =
@@ -213,6 +217,7 @@ image-in-order-spec =
     array-share-prefix-taken
     slice-aggregate-entries-ok-2
     slice-aggregate-entries-ok-3
+    slice-aggregate-entries-ok-4
     entries-ok-requires
     returns-3
     slice-aggregate-recalls-ok
@@ -221,5 +226,7 @@ image-in-order-spec =
     slice-aggregate-recalls-ok-3
     array-share-prefix-recalls
     slice-aggregate-recalls-ok-4
+    array-share-prefix-received
+    slice-aggregate-recalls-ok-5
     recalls-ok-requires
     returns-4)

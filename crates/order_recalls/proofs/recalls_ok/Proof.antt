@@ -61,8 +61,8 @@ returns-4 c =
     λ t x. two-dead x (targets-fit (s .args .image .now) (λ i. omega (arith, c .before .before .before .before .before .before .before .before .before .before .before .before .before .before .before .before .before .before .before .before .shared-slice-known .given i))) (c .before .before .before .before .before .before .before .before .before .before .before .write-keys .ensures)
     (failed (c .before .dead-once .ensures) (c .if4 .taken))
 
-children-marked-requires : tie.Need-children-marked-requires
-children-marked-requires c κs = c .before .before .before .before .before .before .before .before .before .before .before .before .before .before .before .before .before .before .before .before .before .before .pre .1 .1 .1 .0 .0 .low
+all-marked-requires : tie.Need-all-marked-requires
+all-marked-requires c κs = c .before .before .before .before .before .before .before .before .before .before .before .before .before .before .before .before .before .before .before .before .before .before .pre .1 .1 .1 .0 .0 .low
 
 returns-5 : tie.Need-returns-5
 returns-5 c =
@@ -71,24 +71,22 @@ returns-5 c =
     λ t x. child-unmarked x (targets-fit image (λ i. omega (arith, c .before .before .before .before .before .before .before .before .before .before .before .before .before .before .before .before .before .before .before .before .before .before .before .shared-slice-known .given i))) (c .before .before .before .before .before .before .before .before .before .before .before .before .before .before .write-keys .ensures)
     (passed (c .before .before .before .before .before .before .before .before .before .before .before .each-holds .ensures t x) (c .before .before .before .before .before .before .before .before .before .before .if2 .left)) _
     (subst (Marked _ _) (not-false (c .before .before .before .before .before .before .before .mark-places .result) (c .before .before .before .before .before .before .if3 .left)) (c .before .before .before .before .before .before .before .mark-places .ensures))
-    (passed (c .before .before .before .before .dead-once .ensures) (c .before .before .before .if4 .left))
-    (failed (c .before .children-marked .ensures (ticketsIn image) (tickets-long image) (s .pre .1 .1 .1 .0 .0)) (c .if5 .taken))
+    (passed (c .before .before .before .before .dead-once .ensures) (c .before .before .before .if4 .left)) _ (s .pre .1 .1 .1 .0 .0)
+    (failed (c .before .all-marked .ensures) (c .if5 .taken))
 
-hung-marked-requires : tie.Need-hung-marked-requires
-hung-marked-requires c κs =
-    let s = c .before .before .before .before .before .before .before .before .before .before .before .before .before .before .before .before .before .before .before .before .before .before .before .before .before in
-    (s .pre .0, (s .pre .1 .0, s .pre .1 .1 .1 .1))
+all-marked-requires-2 : tie.Need-all-marked-requires-2
+all-marked-requires-2 c κs = c .before .before .before .before .before .before .before .before .before .before .before .before .before .before .before .before .before .before .before .before .before .before .before .before .before .pre .1 .1 .1 .1 .low
 
 returns-6 : tie.Need-returns-6
 returns-6 c =
     let s = c .before .before .before .before .before .before .before .before .before .before .before .before .before .before .before .before .before .before .before .before .before .before .before .before .before .before in
     let image = s .args .image .now in
-    λ t x. c .hung-marked .ensures
+    λ t x. c .all-marked2 .ensures
     ∙ whole x (targets-fit image (λ i. omega (arith, c .before .before .before .before .before .before .before .before .before .before .before .before .before .before .before .before .before .before .before .before .before .before .before .before .before .shared-slice-known .given i))) (c .before .before .before .before .before .before .before .before .before .before .before .before .before .before .before .before .write-keys .ensures)
     (passed (c .before .before .before .before .before .before .before .before .before .before .before .before .before .each-holds .ensures t x) (c .before .before .before .before .before .before .before .before .before .before .before .before .if2 .left)) _
     (subst (Marked _ _) (not-false (c .before .before .before .before .before .before .before .before .before .mark-places .result) (c .before .before .before .before .before .before .before .before .if3 .left)) (c .before .before .before .before .before .before .before .before .before .mark-places .ensures))
-    (passed (c .before .before .before .before .before .before .dead-once .ensures) (c .before .before .before .before .before .if4 .left))
-    (passed (c .before .before .before .children-marked .ensures (ticketsIn image) (tickets-long image) (s .pre .1 .1 .1 .0 .0)) (c .before .before .if5 .left))
+    (passed (c .before .before .before .before .before .before .dead-once .ensures) (c .before .before .before .before .before .if4 .left)) _ _ (s .pre .1 .1 .1 .0 .0) (s .pre .1 .1 .1 .1)
+    (passed (c .before .before .before .all-marked .ensures) (c .before .before .if5 .left))
 
 pub recalls-ok-spec : {M : Type 1} → statement M
 recalls-ok-spec =
@@ -104,7 +102,7 @@ recalls-ok-spec =
     returns-3
     dead-once-requires
     returns-4
-    children-marked-requires
+    all-marked-requires
     returns-5
-    hung-marked-requires
+    all-marked-requires-2
     returns-6)
