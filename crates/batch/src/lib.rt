@@ -3,19 +3,14 @@
 ghost use mathlib.Core.Path.{_≡_};
 ghost use mathlib.Core.Bool.{true};
 ghost use lib.ListN.{length};
-ghost use Rattle.tables.specs.Order.{inOrder, noFarChild};
-ghost use Rattle.machine.specs.Step.{step};
-ghost use Rattle.machine.specs.State.{stateOf};
+ghost use Rattle.tables.specs.Order.{inOrder};
 ghost use Rattle.machine.specs.Numbers.{answerWidth, answerNumbers};
-ghost use Rattle.image.specs.Layout.{imageSize};
 ghost use Rattle.image.specs.Image.{decode, isImage};
-ghost use Rattle.op_serve.specs.Contract.{Lengths, LeavesLent};
 ghost use Rattle.lending.specs.Numbers.{countOf};
 ghost use Rattle.lending.specs.Sequence.{startWith, Whole, AllServed};
 ghost use Rattle.lending.specs.Batch.{lengthsFit, buffersOf, Leaves};
 use image::IMAGE;
 use machine::Answer;
-use machine::Request;
 use op_form::ANSWER;
 use op_form::REQUEST;
 use op_sheets::SHEET;
@@ -30,52 +25,28 @@ pub fn put_answer(numbers: &mut [u16], a: Answer)
     numbers[2] = a.recipient;
 }
 
-// The step on lent tables. Where they are known to be in order, they are not tested again.
-pub fn serve_one(
-    tables: &mut [u8],
-    store: &mut [u8],
-    sheet: &mut [u8],
-    r: Request,
-    sure: bool,
-) -> Answer
-    requires { ⌜ (isImage (now tables) ≡ true) × (Lengths (now store) (now sheet) × (sure ≡ true → inOrder (decode (now tables)) ≡ true)) ⌝ }
-    ensures { λ a. ⌜ LeavesLent (step (stateOf (decode (now (tables .entry))) (now (store .entry)) (now (sheet .entry))) r) a (now (tables .exit)) (now (store .exit)) (now (sheet .exit)) ⌝ }
-{
-    if sure {
-        return op_serve::request(tables, store, sheet, r);
-    }
-    if !order::image_in_order(tables) {
-        return op_outcome::plain(14);
-    }
-    op_serve::request(tables, store, sheet, r)
-}
-
-// The requests one after the other, from tables in order. The first needs no other test of that. Nor do those behind it where `keeps`
-// says that the tables stay in order.
+// The requests one after the other. Every request leaves tables in order, so that they are not tested again.
 fn serve_all(
     tables: &mut [u8],
     store: &mut [u8],
     sheets: &mut [u8],
     requests: &[u16],
     answers: &mut [u16],
-    keeps: bool,
 )
-    requires { ⌜ (isImage (now tables) ≡ true) × (Whole (countOf (now requests)) (now store) (now sheets) (now requests) (now answers) × (inOrder (decode (now tables)) ≡ true × (keeps ≡ true → noFarChild (decode (now tables)) ≡ true))) ⌝ }
+    requires { ⌜ (isImage (now tables) ≡ true) × (Whole (countOf (now requests)) (now store) (now sheets) (now requests) (now answers) × (inOrder (decode (now tables)) ≡ true)) ⌝ }
     ensures { λ _. ⌜ AllServed (startWith (decode (now (tables .entry))) (now (store .entry)) (now (sheets .entry)) (now (requests .entry))) (countOf (now (requests .entry))) (now (tables .exit)) (now (store .exit)) (now (sheets .exit)) (now (answers .exit)) ⌝ }
 {
     let n = requests.len() / REQUEST;
-    let mut sure = true;
     let mut i: usize = 0;
     while i < n {
         let from = REQUEST * i;
         let r = op_form::request_in(&requests[from..]);
         let at = SHEET * i;
         let end = at + SHEET;
-        let a = serve_one(tables, store, &mut sheets[at..end], r, sure);
+        let a = op_serve::request(tables, store, &mut sheets[at..end], r);
         let into = ANSWER * i;
         let upto = into + ANSWER;
         put_answer(&mut answers[into..upto], a);
-        sure = keeps;
         i = i + 1;
     }
 }
@@ -106,17 +77,6 @@ fn lengths_ok(tables: usize, store: usize, sheets: usize, requests: usize, answe
     answers / ANSWER == n
 }
 
-// Is it known that the tables stay in order? For one request nobody has to know.
-fn stays_in_order(tables: &[u8], numbers: usize) -> bool
-    requires { ⌜ length (now tables) ≡ imageSize ⌝ }
-    ensures { λ r. ⌜ (r ≡ true → noFarChild (decode (now (tables .entry))) ≡ true) ⌝ }
-{
-    if numbers <= REQUEST {
-        return false;
-    }
-    order::no_far_child(tables)
-}
-
 // 13, 14, or the requests one after the other. A batch that is refused changes nothing.
 pub fn serve(
     tables: &mut [u8],
@@ -139,7 +99,6 @@ pub fn serve(
     if !order::image_in_order(tables) {
         return 14;
     }
-    let keeps = stays_in_order(tables, requests.len());
-    serve_all(tables, store, sheets, requests, answers, keeps);
+    serve_all(tables, store, sheets, requests, answers);
     0
 }

@@ -29,13 +29,13 @@ pub record Stands (d : Dock) (s : State) : Type 0 where
 
 module _ (d : Dock) (s : State) (h : Stands d s) where
   pub decoded : decode (d .image) ≡ s .tables
-  decoded = ap decode (h .image) ∙ decode-encode (s .tables) (h .ok .tables .order .shape .sized)
+  decoded = ap decode (h .image) ∙ decode-encode (s .tables) (h .ok .tables .shape .sized)
 
   pub is-image : isImage (d .image) ≡ true
   is-image = ap isImage (h .image) ∙ encode-is-image (s .tables)
 
   pub in-order : inOrder (decode (d .image)) ≡ true
-  in-order = ap inOrder decoded ∙ order-passes-test (s .tables) (h .ok .tables .order)
+  in-order = ap inOrder decoded ∙ order-passes-test (s .tables) (h .ok .tables)
 
   pub tables-ok : tablesOk (d .image) ≡ true
   unfolding tablesOk

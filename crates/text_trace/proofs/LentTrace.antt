@@ -1,14 +1,14 @@
 -- The trace over lent buffers: refused, each as the definition says, or, past the tests of tables and store, written whole.
 use Prim.Native.Nat.{ℕ}
 use native.Mathlib.Omega.{arith}
-use mathlib.Core.Path.{_≡_, sym, _∙_}
+use mathlib.Core.Path.{_≡_, _∙_}
 use mathlib.Core.Bool.{Bool, true, false, not, _&&_}
 use mathlib.Core.List.{List}
 use lib.Dec.{leb, eqb}
 use lib.ListN.{length}
 use borrow.Author.Tests.{eq-eqb, ne-eqb}
 use Rattle.lists.proofs.Tests.{and-false}
-use Rattle.tables.specs.Order.{inOrder, noFarChild}
+use Rattle.tables.specs.Order.{inOrder}
 use Rattle.machine.specs.Refusal.{_when_else_}
 use Rattle.image.specs.Layout.{imageSize}
 use Rattle.image.specs.Image.{encode, decode, isImage}
@@ -20,15 +20,10 @@ use Rattle.text.proofs.Appending.{measured, write-tested}
 use Rattle.batch.proofs.Refusals.{is-image, is-in-order}
 use Rattle.text_trace.specs.Contract.{Servable, LeavesDock}
 
--- ---- past 13 and 14, by what the two tests of the tables ensure
-pub tested : (image bytes : List ℕ) {r sure : Bool} → r ≡ (isImage image && inOrder (decode image)) → not r ≡ false
-    → sure ≡ noFarChild (decode image) → length bytes ≡ 16384 → Servable sure image bytes
-tested image bytes told in-order far long = record {
-  is = is-image image told in-order;
-  order = λ e. is-in-order image told in-order;
-  noFar = λ e. sym far ∙ e;
-  store = long;
-}
+-- ---- past 13 and 14, by what the test of the tables ensures
+pub tested : (image bytes : List ℕ) {r : Bool} → r ≡ (isImage image && inOrder (decode image)) → not r ≡ false → length bytes ≡ 16384
+    → Servable image bytes
+tested image bytes told in-order long = record { is = is-image image told in-order; order = is-in-order image told in-order; store = long }
 
 module _ (b : TraceBuffers) where
   -- ---- refused

@@ -1,20 +1,24 @@
 -- One line's work: the request of a line in form is served on the lent image and store, and one of another form changes nothing.
 use Prim.Native.Nat.{ℕ, _<_}
-use mathlib.Core.Path.{_≡_, refl, sym, ap, subst, _∙_}
-use mathlib.Core.Bool.{Bool, true, false, _&&_, cond}
+use mathlib.Core.Path.{_≡_, refl, sym, ap, _∙_}
+use mathlib.Core.Bool.{true, false, _&&_, cond}
 use mathlib.Core.List.{List}
 use lib.Dec.{eqb}
-use lib.ListN.{length, getD, replicate}
+use lib.ListN.{length, getD, replicate, length-replicate}
 use Rattle.lists.proofs.Tests.{Case, pass, fail, case}
+use Rattle.tables.specs.Lookup.{Sized}
+use Rattle.tables.specs.Order.{inOrder}
 use Rattle.machine.specs.declared.Answer.{Answer}
-use Rattle.machine.specs.State.{State, Outcome, stateOf}
-use Rattle.machine.specs.Step.{step}
+use Rattle.machine.specs.State.{State, stateOf}
+use Rattle.machine.specs.Step.{step, serve}
 use Rattle.machine.specs.Sequence.{enter}
-use Rattle.preservation.proofs.StepKeepsOrder.{PassesTests, step-keeps-tests}
+use Rattle.preservation.proofs.StepKeepsOrder.{step-keeps-order}
 use Rattle.image.specs.Image.{encode, decode, isImage}
 use Rattle.image.proofs.RoundTrip.{encode-decode, encode-is-image}
 use Rattle.image_find.proofs.Laws.{decoded-sized}
 use Rattle.op_serve.specs.Contract.{LeavesLent}
+use Rattle.op_serve.proofs.Parts.{same-outcome}
+use Rattle.lending.proofs.Served.{is-served}
 use Rattle.lending.specs.Trace.{dockOf}
 use Rattle.trace_texts.specs.Line.{inForm, sentBy, answerLine, firstByte, otherLine}
 use Rattle.trace_texts.specs.Trace.{servedBy, answerTo, leftByLine}
@@ -23,7 +27,7 @@ use Rattle.text_trace.specs.Contract.{Reads, Servable, LeavesDock}
 use Rattle.trace_texts.proofs.AnswersLaws.{answer-served, answer-other, left-served, left-other}
 
 -- ---- an image that stays as it is
-module _ (sure : Bool) (image bytes : List ℕ) (small : (j : ℕ) → getD image j 0 < 256) (ready : Servable sure image bytes) where
+module _ (image bytes : List ℕ) (small : (j : ℕ) → getD image j 0 < 256) (ready : Servable image bytes) where
   pub same-image : image ≡ encode (decode image)
   same-image = sym (encode-decode image small (ready .is))
 
@@ -31,29 +35,27 @@ module _ (sure : Bool) (image bytes : List ℕ) (small : (j : ℕ) → getD imag
   same-dock = record { tables = same-image; decoded = refl; store = refl }
 
 -- ---- a copy
-pub same-ready : {sure : Bool} {image bytes image′ bytes′ : List ℕ} → image′ ≡ image → bytes′ ≡ bytes → Servable sure image bytes → Servable sure image′ bytes′
+pub same-ready : {image bytes image′ bytes′ : List ℕ} → image′ ≡ image → bytes′ ≡ bytes → Servable image bytes → Servable image′ bytes′
 same-ready e f ready = rw (e, f) ready
 
 -- ---- in order from line to line
-passes : (image bytes : List ℕ) → Servable true image bytes → PassesTests (decode image)
-passes image bytes ready = record { sized = decoded-sized image; order = ready .order refl; noFar = ready .noFar refl }
-
-left-passes : (s : State) (line : List ℕ) → PassesTests (s .tables) → PassesTests (leftByLine s line .tables)
+left-in-order : (s : State) (line : List ℕ) → Sized (s .tables) → inOrder (s .tables) ≡ true → inOrder (leftByLine s line .tables) ≡ true
 unfolding enter
-left-passes s line p = go (case (inForm line))
+left-in-order s line z e = go (case (inForm line))
   where
-    go : Case (inForm line) → PassesTests (leftByLine s line .tables)
-    go (pass e) = rw (left-served s line e) (step-keeps-tests (enter s (sentBy line)) (sentBy line .request) p)
-    go (fail e) = rw (left-other s line e) p
+    go : Case (inForm line) → inOrder (leftByLine s line .tables) ≡ true
+    go (pass f) = rw (left-served s line f) (step-keeps-order (enter s (sentBy line)) (sentBy line .request) z e)
+    go (fail f) = rw (left-other s line f) e
 
-pub still-ready : (sure : Bool) (image bytes line image′ bytes′ : List ℕ) → Servable sure image bytes
-    → LeavesDock (leftByLine (dockOf image bytes) line) image′ bytes′ → length bytes′ ≡ 16384 → Servable sure image′ bytes′
-still-ready sure image bytes line image′ bytes′ ready h long =
+pub still-ready : (image bytes line image′ bytes′ : List ℕ) → Servable image bytes
+    → LeavesDock (leftByLine (dockOf image bytes) line) image′ bytes′ → length bytes′ ≡ 16384 → Servable image′ bytes′
+still-ready image bytes line image′ bytes′ ready h long =
     let left = leftByLine (dockOf image bytes) line .tables in
-    let p : sure ≡ true → PassesTests (decode image′) = λ e.
-    subst PassesTests (sym (h .decoded))
-    (left-passes (dockOf image bytes) line (passes image bytes (subst (λ (b : Bool). Servable b image bytes) e ready))) in
-    record { is = ap isImage (h .tables) ∙ encode-is-image left; order = λ e. p e .order; noFar = λ e. p e .noFar; store = long }
+    record {
+      is = ap isImage (h .tables) ∙ encode-is-image left;
+      order = ap inOrder (h .decoded) ∙ left-in-order (dockOf image bytes) line (decoded-sized image) (ready .order);
+      store = long;
+    }
 
 -- ---- what the routine appends and leaves
 module _ (image bytes line : List ℕ) (number : ℕ) (a : Asked) (read : Reads line a) where
@@ -88,10 +90,13 @@ module _ (image bytes line : List ℕ) (number : ℕ) (a : Asked) (read : Reads 
     unfolding enter
     same-step i = step (stateOf (decode image) bytes (sheet-is i)) (request-is i)
 
-    module _ (answer : Answer) (image′ bytes′ sheet′ : List ℕ)
-        (leaves : LeavesLent (step (stateOf (decode image) bytes (replicate 64 (a .fill))) (a .request)) answer image′ bytes′ sheet′) where
+    module _ (ready : Servable image bytes) (answer : Answer) (image′ bytes′ sheet′ : List ℕ)
+        (leaves : LeavesLent (serve (stateOf (decode image) bytes (replicate 64 (a .fill))) (a .request)) answer image′ bytes′ sheet′) where
       served : LeavesLent (servedBy here line) answer image′ bytes′ sheet′
-      served = subst (λ (o : Outcome). LeavesLent o answer image′ bytes′ sheet′) same-step leaves
+      served =
+          same-outcome
+          (is-served (decode image) bytes (replicate 64 (a .fill)) (a .request) (ready .store) (length-replicate {A = ℕ} 64 (a .fill)) (ready .order) ∙ same-step)
+          leaves
 
       pub served-text : (byte : ℕ) → byte ≡ cond (eqb (a .request .op) 5 && eqb (answer .result) 0) (getD sheet′ 0 0) 0
           → answerTo number here line ≡ answerLine number answer byte

@@ -31,10 +31,10 @@ restOf s input from done = answers (done + 1) s (lines (drop from input))
 abbrev pub endOf : State → List ℕ → ℕ → State
 endOf s input from = afterLines s (lines (drop from input))
 
-pub record Going (s₀ : State) (sure : Bool) (input : List ℕ) (start : ℕ) (before : List ℕ) (at : ℕ) (image bytes out : List ℕ) (from done total : ℕ) : Type 0 where
+pub record Going (s₀ : State) (input : List ℕ) (start : ℕ) (before : List ℕ) (at : ℕ) (image bytes out : List ℕ) (from done total : ℕ) : Type 0 where
   pub inside : from ≤ length input + 1
   pub counted : done < from
-  pub ready : Servable sure image bytes
+  pub ready : Servable image bytes
   pub encoded : image ≡ encode (decode image)
   pub kept : length out ≡ length before
   pub bound : Countable total (restOf (dockOf image bytes) input from done)
@@ -42,22 +42,22 @@ pub record Going (s₀ : State) (sure : Bool) (input : List ℕ) (start : ℕ) (
       → Appends (restOf s₀ input start 0) before after at r
   pub left : SameDock (endOf (dockOf image bytes) input from) (endOf s₀ input start)
 
-pub begins : (sure : Bool) (image bytes input : List ℕ) (start : ℕ) (out : List ℕ) (at : ℕ) → ((j : ℕ) → getD image j 0 < 256) → Servable sure image bytes
+pub begins : (image bytes input : List ℕ) (start : ℕ) (out : List ℕ) (at : ℕ) → ((j : ℕ) → getD image j 0 < 256) → Servable image bytes
     → LinesFrom start input → Countable at (restOf (dockOf image bytes) input start 0)
-    → Going (dockOf image bytes) sure input start out at image bytes out start 0 at
-begins sure image bytes input start out at small ready behind bound = record {
+    → Going (dockOf image bytes) input start out at image bytes out start 0 at
+begins image bytes input start out at small ready behind bound = record {
   inside = behind .inside;
   counted = behind .first;
   ready = ready;
-  encoded = same-image sure image bytes small ready;
+  encoded = same-image image bytes small ready;
   kept = refl;
   bound = bound;
   rest = λ after r a. a;
   left = same-of _ _ refl;
 }
 
-module _ (s₀ : State) (sure : Bool) (input : List ℕ) (start : ℕ) (before : List ℕ) (at : ℕ) (image bytes out : List ℕ) (from done total : ℕ)
-    (g : Going s₀ sure input start before at image bytes out from done total) where
+module _ (s₀ : State) (input : List ℕ) (start : ℕ) (before : List ℕ) (at : ℕ) (image bytes out : List ℕ) (from done total : ℕ)
+    (g : Going s₀ input start before at image bytes out from done total) where
   abbrev here : State
   here = dockOf image bytes
 
@@ -108,7 +108,7 @@ module _ (s₀ : State) (sure : Bool) (input : List ℕ) (start : ℕ) (before :
 
     pub next : (image′ bytes′ out′ : List ℕ) (total′ : ℕ) → Appends (answerTo (done + 1) here lineHere) out out′ total total′
         → LeavesDock (leftByLine here lineHere) image′ bytes′ → length bytes′ ≡ length bytes
-        → Going s₀ sure input start before at image′ bytes′ out′ (from + k + 1) (done + 1) total′
+        → Going s₀ input start before at image′ bytes′ out′ (from + k + 1) (done + 1) total′
     next image′ bytes′ out′ total′ put h long =
         let text = answerTo (done + 1) here lineHere in
         let there = dockOf image′ bytes′ in
@@ -123,7 +123,7 @@ module _ (s₀ : State) (sure : Bool) (input : List ℕ) (start : ℕ) (before :
         record {
           inside = omega (arith, line-inside);
           counted = omega (arith, g .counted);
-          ready = still-ready sure image bytes lineHere image′ bytes′ (g .ready) h (long ∙ g .ready .store);
+          ready = still-ready image bytes lineHere image′ bytes′ (g .ready) h (long ∙ g .ready .store);
           encoded = h .tables ∙ ap encode (sym (h .decoded));
           kept = put .kept ∙ g .kept;
           bound = omega (arith, g .bound, put .total, whole-long);

@@ -11,10 +11,11 @@ use borrow.Author.Tests.{le-leb, lt-leb}
 use Rattle.lists.proofs.Tests.{and-false}
 use Rattle.lists.proofs.Search.{first-within}
 use Rattle.tables.specs.Names.{emptyTables}
+use Rattle.tables.specs.Order.{inOrder}
 use Rattle.machine.specs.State.{State}
 use Rattle.machine.specs.Empty.{emptyStore, emptyDock}
 use Rattle.preservation.proofs.EmptyDockInOrder.{empty-sized, empty-invariant}
-use Rattle.preservation.proofs.StepKeepsOrder.{PassesTests, tests-of}
+use Rattle.preservation.proofs.OrderPassesTest.{order-passes-test}
 use Rattle.image.specs.Layout.{imageSize}
 use Rattle.image.specs.Image.{decode, isImage}
 use Rattle.image.proofs.EmptyImage.{empty-zeros, zeros-empty}
@@ -48,15 +49,12 @@ pub from-zeros : (input : List ℕ) {before after : List ℕ} {r : ℕ}
     → Writes (traceFrom (dockOf (replicate imageSize 0) (replicate 16384 0)) input) before after r → Writes (trace input) before after r
 from-zeros input {before} {after} {r} w = subst (λ (s : State). Writes (traceFrom s input) before after r) zeros-dock w
 
-pub zeros-ready : Servable true (replicate imageSize 0) (replicate 16384 0)
-zeros-ready =
-    let p : PassesTests (decode (replicate imageSize 0)) = subst PassesTests (sym zeros-tables) (tests-of emptyTables empty-invariant) in
-    record {
-      is = ap isImage (sym empty-zeros) ∙ encode-is-image emptyTables;
-      order = λ e. p .order;
-      noFar = λ e. p .noFar;
-      store = length-replicate {A = ℕ} 16384 0;
-    }
+pub zeros-ready : Servable (replicate imageSize 0) (replicate 16384 0)
+zeros-ready = record {
+  is = ap isImage (sym empty-zeros) ∙ encode-is-image emptyTables;
+  order = ap inOrder zeros-tables ∙ order-passes-test emptyTables empty-invariant;
+  store = length-replicate {A = ℕ} 16384 0;
+}
 
 -- ---- the input
 module _ (input : List ℕ) where

@@ -2,10 +2,10 @@
 -- store, from line to line.
 use Prim.Native.Nat.{ℕ, _+_, _≤_}
 use mathlib.Core.Path.{_≡_}
-use mathlib.Core.Bool.{Bool, true}
+use mathlib.Core.Bool.{true}
 use mathlib.Core.List.{List}
 use lib.ListN.{length}
-use Rattle.tables.specs.Order.{inOrder, noFarChild}
+use Rattle.tables.specs.Order.{inOrder}
 use Rattle.machine.specs.State.{State}
 use Rattle.machine.specs.Numbers.{requestOf}
 use Rattle.image.specs.Image.{encode, decode, isImage}
@@ -20,11 +20,10 @@ pub record Reads (line : List ℕ) (a : Asked) : Type 0 where
   pub request : inForm line ≡ true → a .request ≡ requestOf (valuesOf line)
   pub fill : inForm line ≡ true → a .fill ≡ fillOf (valuesOf line)
 
--- an image and a store of 256 sheets; where it is sure, of tables that every request leaves in order
-pub record Servable (sure : Bool) (image bytes : List ℕ) : Type 0 where
+-- an image of tables in order, and a store of 256 sheets
+pub record Servable (image bytes : List ℕ) : Type 0 where
   pub is : isImage image ≡ true
-  pub order : sure ≡ true → inOrder (decode image) ≡ true
-  pub noFar : sure ≡ true → noFarChild (decode image) ≡ true
+  pub order : inOrder (decode image) ≡ true
   pub store : length bytes ≡ 16384
 
 -- the lines of an input from `start` on: one stands in front of them, and they are few enough for their numbers

@@ -1,5 +1,5 @@
-// The trace: a text of requests in, a text of answers out; from an emptied dock of its own, or over the one that a host lends. Where the
-// tables are sure to stay in order, no line pays for a test of that.
+// The trace: a text of requests in, a text of answers out; from an emptied dock of its own, or over the one that a host lends. Every request
+// leaves tables in order, so that no line pays for a test of that.
 ghost use Prim.Native.Nat.{_<_};
 ghost use mathlib.Core.Path.{_≡_};
 ghost use mathlib.Core.Bool.{_&&_, cond};
@@ -119,13 +119,12 @@ fn append_other(out: &mut [u8], at: usize, number: u16) -> usize
 fn serve_line(
     tables: &mut [u8],
     store: &mut [u8],
-    sure: bool,
     line: &[u8],
     number: u16,
     out: &mut [u8],
     at: usize,
 ) -> usize
-    requires { ⌜ Servable sure (now tables) (now store) × Countable at (spec.answerTo number (dockOf (now tables) (now store)) (now line)) ⌝ }
+    requires { ⌜ Servable (now tables) (now store) × Countable at (spec.answerTo number (dockOf (now tables) (now store)) (now line)) ⌝ }
     ensures { λ r. ⌜ Appends (spec.answerTo number (dockOf (now (tables .entry)) (now (store .entry))) (now (line .entry))) (now (out .entry)) (now (out .exit)) at r ⌝ }
     ensures { λ _. ⌜ LeavesDock (spec.leftByLine (dockOf (now (tables .entry)) (now (store .entry))) (now (line .entry))) (now (tables .exit)) (now (store .exit)) ⌝ }
 {
@@ -136,7 +135,7 @@ fn serve_line(
     let r = a.request;
     let fill = a.fill;
     let mut sheet = [fill; SHEET];
-    let answer = batch::serve_one(tables, store, &mut sheet, r, sure);
+    let answer = op_serve::request(tables, store, &mut sheet, r);
     let byte = first_byte(r.op, answer.result, &sheet);
     append_answer(out, at, number, answer, byte)
 }
@@ -145,13 +144,12 @@ fn serve_line(
 pub fn serve_lines(
     tables: &mut [u8],
     store: &mut [u8],
-    sure: bool,
     input: &[u8],
     start: usize,
     out: &mut [u8],
     at: usize,
 ) -> usize
-    requires { ⌜ Servable sure (now tables) (now store) × (LinesFrom start (now input) × Countable at (spec.answers 1 (dockOf (now tables) (now store)) (lines (drop start (now input))))) ⌝ }
+    requires { ⌜ Servable (now tables) (now store) × (LinesFrom start (now input) × Countable at (spec.answers 1 (dockOf (now tables) (now store)) (lines (drop start (now input))))) ⌝ }
     ensures { λ r. ⌜ Appends (spec.answers 1 (dockOf (now (tables .entry)) (now (store .entry))) (lines (drop start (now (input .entry))))) (now (out .entry)) (now (out .exit)) at r ⌝ }
     ensures { λ _. ⌜ LeavesDock (spec.afterLines (dockOf (now (tables .entry)) (now (store .entry))) (lines (drop start (now (input .entry))))) (now (tables .exit)) (now (store .exit)) ⌝ }
 {
@@ -161,7 +159,7 @@ pub fn serve_lines(
     while from < input.len() {
         let end = from + text::find(&input[from..], LINE_END);
         let number = done + 1;
-        total = serve_line(tables, store, sure, &input[from..end], number, out, total);
+        total = serve_line(tables, store, &input[from..end], number, out, total);
         done = number;
         from = end + 1;
     }
@@ -171,8 +169,8 @@ pub fn serve_lines(
 // ---- the whole
 
 // The whole trace goes to the front of the output, if it has room there. Its length counts in any case.
-fn put_trace(tables: &mut [u8], store: &mut [u8], sure: bool, input: &[u8], out: &mut [u8]) -> usize
-    requires { ⌜ Servable sure (now tables) (now store) ⌝ }
+fn put_trace(tables: &mut [u8], store: &mut [u8], input: &[u8], out: &mut [u8]) -> usize
+    requires { ⌜ Servable (now tables) (now store) ⌝ }
     ensures { λ r. ⌜ Appends (spec.traceFrom (dockOf (now (tables .entry)) (now (store .entry))) (now (input .entry))) (now (out .entry)) (now (out .exit)) 0 r ⌝ }
     ensures { λ _. ⌜ LeavesDock (spec.afterTrace (dockOf (now (tables .entry)) (now (store .entry))) (now (input .entry))) (now (tables .exit)) (now (store .exit)) ⌝ }
 {
@@ -187,7 +185,7 @@ fn put_trace(tables: &mut [u8], store: &mut [u8], sure: bool, input: &[u8], out:
     if !first.ok {
         return append_other(out, at, 0);
     }
-    serve_lines(tables, store, sure, input, first.end + 1, out, at)
+    serve_lines(tables, store, input, first.end + 1, out, at)
 }
 
 // `to` becomes `from`.
@@ -204,8 +202,8 @@ fn copy(from: &[u8], to: &mut [u8])
 
 // Does the trace fit into so many bytes? Where that is not known beforehand it is run once on a copy of the dock, to no output, for its
 // length.
-fn fits(tables: &[u8], store: &[u8], sure: bool, input: &[u8], room: usize) -> bool
-    requires { ⌜ Servable sure (now tables) (now store) ⌝ }
+fn fits(tables: &[u8], store: &[u8], input: &[u8], room: usize) -> bool
+    requires { ⌜ Servable (now tables) (now store) ⌝ }
     ensures { λ r. ⌜ r ≡ leb (length (spec.traceFrom (dockOf (now (tables .entry)) (now (store .entry))) (now (input .entry)))) room ⌝ }
 {
     if ROOM <= room {
@@ -216,7 +214,7 @@ fn fits(tables: &[u8], store: &[u8], sure: bool, input: &[u8], room: usize) -> b
     copy(tables, &mut image);
     copy(store, &mut sheets);
     let mut nothing = [0u8; 1];
-    let total = put_trace(&mut image, &mut sheets, sure, input, &mut nothing[..0]);
+    let total = put_trace(&mut image, &mut sheets, input, &mut nothing[..0]);
     total <= room
 }
 
@@ -227,10 +225,10 @@ pub fn trace(input: &[u8], out: &mut [u8]) -> usize
 {
     let mut tables = [0u8; IMAGE];
     let mut store = [0u8; STORE];
-    if !fits(&tables, &store, true, input, out.len()) {
+    if !fits(&tables, &store, input, out.len()) {
         return 0;
     }
-    put_trace(&mut tables, &mut store, true, input, out)
+    put_trace(&mut tables, &mut store, input, out)
 }
 
 // The trace over a lent dock: 13, 14, 17 where the output is too short for the whole, or 0. A refusal changes nothing, and the length is 0.
@@ -253,11 +251,10 @@ pub fn trace_lent(
     if !order::image_in_order(tables) {
         return 14;
     }
-    let sure = order::no_far_child(tables);
-    if !fits(tables, store, sure, input, output.len()) {
+    if !fits(tables, store, input, output.len()) {
         return 17;
     }
-    *length = put_trace(tables, store, sure, input, output);
+    *length = put_trace(tables, store, input, output);
     0
 }
 

@@ -39,29 +39,13 @@ returns-2 c =
     let fits : buffersFit b ≡ true = passed (c4 .lengths-ok .ensures) (c3 .if1 .left) in
     leaves-14 b fits (tables-bad (a .tables .now) (c .before .image-in-order .ensures) (c .if2 .taken))
 
-stays-in-order-requires : tie.Need-stays-in-order-requires
-stays-in-order-requires c κs =
-    let c4 = c .before .before .before .before in
-    let c5 = c4 .before in
-    let c11 = c5 .before .before .before .before .before .before in
-    let a = c11 .args in
-    let b = buffersOf (a .tables .now) (a .store .now) (a .sheets .now) (a .requests .now) (a .answers .now) in
-    let fits : buffersFit b ≡ true = passed (c5 .lengths-ok .ensures) (c4 .if1 .left) in
-    image-whole b fits
-
 serve-all-requires : tie.Need-serve-all-requires
 serve-all-requires c κs =
-    let c4 = c .before .before .before .before in
-    let c6 = c4 .before .before in
-    let c7 = c6 .before in
-    let c9 = c7 .before .before in
-    let c10 = c9 .before in
-    let c16 = c10 .before .before .before .before .before .before in
-    let a = c16 .args in
+    let a = c .before .before .before .before .before .before .before .before .before .before .before .before .before .before .args in
     let b = buffersOf (a .tables .now) (a .store .now) (a .sheets .now) (a .requests .now) (a .answers .now) in
-    let fits : buffersFit b ≡ true = passed (c10 .lengths-ok .ensures) (c9 .if1 .left) in (
-      is-image (a .tables .now) (c7 .image-in-order .ensures) (c6 .if2 .left),
-      (whole b fits, (is-in-order (a .tables .now) (c7 .image-in-order .ensures) (c6 .if2 .left), c4 .stays-in-order .ensures)),
+    let fits : buffersFit b ≡ true = passed (c .before .before .before .before .before .before .before .before .lengths-ok .ensures) (c .before .before .before .before .before .before .before .if1 .left) in (
+      is-image (a .tables .now) (c .before .before .before .before .before .image-in-order .ensures) (c .before .before .before .before .if2 .left),
+      (whole b fits, is-in-order (a .tables .now) (c .before .before .before .before .before .image-in-order .ensures) (c .before .before .before .before .if2 .left)),
     )
 
 same-length-2 : tie.Need-same-length-2
@@ -78,16 +62,10 @@ same-length-5 c = search needs
 
 returns-3 : tie.Need-returns-3
 returns-3 c =
-    let c8 = c .before .before .before .before .before .before .before .before in
-    let c15 = c8 .before .before .before .before .before .before .before in
-    let c16 = c15 .before in
-    let c18 = c16 .before .before in
-    let c19 = c18 .before in
-    let c25 = c19 .before .before .before .before .before .before in
-    let a = c25 .args in
+    let a = c .before .before .before .before .before .before .before .before .before .before .before .before .before .before .before .before .before .before .before .before .before .before .before .args in
     let b = buffersOf (a .tables .now) (a .store .now) (a .sheets .now) (a .requests .now) (a .answers .now) in
-    let fits : buffersFit b ≡ true = passed (c19 .lengths-ok .ensures) (c18 .if1 .left) in
-    leaves-0 b fits (tables-ok (a .tables .now) (c16 .image-in-order .ensures) (c15 .if2 .left)) _ _ _ _ (c8 .serve-all .ensures)
+    let fits : buffersFit b ≡ true = passed (c .before .before .before .before .before .before .before .before .before .before .before .before .before .before .before .before .before .lengths-ok .ensures) (c .before .before .before .before .before .before .before .before .before .before .before .before .before .before .before .before .if1 .left) in
+    leaves-0 b fits (tables-ok (a .tables .now) (c .before .before .before .before .before .before .before .before .before .before .before .before .before .before .image-in-order .ensures) (c .before .before .before .before .before .before .before .before .before .before .before .before .before .if2 .left)) _ _ _ _ (c .before .before .before .before .before .before .before .before .serve-all .ensures)
 
 pub serve-spec : {M : Type 1} → statement M
 serve-spec =
@@ -98,7 +76,6 @@ serve-spec =
     image-in-order-requires
     same-length
     returns-2
-    stays-in-order-requires
     serve-all-requires
     same-length-2
     same-length-3

@@ -15,18 +15,19 @@ use Rattle.batch.proofs.serve_all.Statement.{statement}
 use Rattle.batch.proofs.serve_all.Tie as tie
 
 abbrev Inv-loop : tie.InvT-loop
-Inv-loop tables₀ store₀ sheets₀ requests answers₀ keeps n sure₀ i₀ tables store sheets answers sure i = Going (startWith (decode tables₀) store₀ sheets₀ requests) n answers₀ keeps i tables store sheets answers sure
+Inv-loop tables₀ store₀ sheets₀ requests answers₀ n i₀ tables store sheets answers i =
+    Going (startWith (decode tables₀) store₀ sheets₀ requests) n answers₀ i tables store sheets answers
 
 abbrev μ-loop : tie.MeasureT-loop
-μ-loop tables₀ store₀ sheets₀ requests answers₀ keeps n sure₀ i₀ tables store sheets answers sure i = n - i
+μ-loop tables₀ store₀ sheets₀ requests answers₀ n i₀ tables store sheets answers i = n - i
 
 loop-holds : tie.Need-loop-holds Inv-loop μ-loop
 loop-holds c =
     let c4 = c .before .before .before .before in
     let c5 = c4 .before in
     let a = c5 .args in
-    begins (a .tables .now) (a .store .now) (a .sheets .now) (a .requests .now) (countOf (a .requests .now)) (a .answers .now) (a .keeps)
-    (λ j. omega (arith, c4 .slice-known .given j)) (c5 .pre .0) (c5 .pre .1 .0 .store) (c5 .pre .1 .1 .0) (c5 .pre .1 .1 .1)
+    begins (a .tables .now) (a .store .now) (a .sheets .now) (a .requests .now) (countOf (a .requests .now)) (a .answers .now)
+    (λ j. omega (arith, c4 .slice-known .given j)) (c5 .pre .0) (c5 .pre .1 .0 .store) (c5 .pre .1 .1)
 
 mul-from : tie.Need-mul-from Inv-loop μ-loop
 mul-from c = search needs
@@ -52,33 +53,30 @@ mul-at c = search needs
 add-end : tie.Need-add-end Inv-loop μ-loop
 add-end c = search needs
 
-sub-serve-one : tie.Need-sub-serve-one Inv-loop μ-loop
-sub-serve-one c = search needs
+sub-request : tie.Need-sub-request Inv-loop μ-loop
+sub-request c = search needs
 
-part-serve-one-start : tie.Need-part-serve-one-start Inv-loop μ-loop
-part-serve-one-start c = search needs
+part-request-start : tie.Need-part-request-start Inv-loop μ-loop
+part-request-start c = search needs
 
-part-serve-one-end : tie.Need-part-serve-one-end Inv-loop μ-loop
-part-serve-one-end c =
+part-request-end : tie.Need-part-request-end Inv-loop μ-loop
+part-request-end c =
     let c4 = c .before .before .before .before in
     let c5 = c4 .before in
     let c11 = c5 .before .before .before .before .before .before in
     omega (arith, c5 .loop .inv .sheets .size, c11 .pre .1 .0 .sheets, c4 .loop-test .taken)
 
-serve-one-requires : tie.Need-serve-one-requires Inv-loop μ-loop
-serve-one-requires c κs =
-    let c5 = c .before .before .before .before .before in
-    let c6 = c5 .before in
-    let c12 = c6 .before .before .before .before .before .before in (
-      still-image _ _ _ _ _ _ _ _ _ _ (c6 .loop .inv),
-      (
-        record {
-          store = c6 .loop .inv .long;
-          sheet = simp (length-take, length-drop) (omega (arith, c6 .loop .inv .sheets .size, c12 .pre .1 .0 .sheets, c5 .loop-test .taken));
-        },
-        c6 .loop .inv .ordered,
-      ),
-    )
+request-requires : tie.Need-request-requires Inv-loop μ-loop
+request-requires c κs =
+    let so = c .before .before .before .before .before .before .loop .inv in
+    record {
+      is = still-image _ _ _ _ _ _ _ _ so;
+      order = so .order;
+      lengths = record {
+        store = so .long;
+        sheet = simp (length-take, length-drop) (omega (arith, so .sheets .size, c .before .before .before .before .before .before .before .before .before .before .before .before .pre .1 .0 .sheets, c .before .before .before .before .before .loop-test .taken));
+      };
+    }
 
 mul-into : tie.Need-mul-into Inv-loop μ-loop
 mul-into c =
@@ -124,24 +122,23 @@ loop-less c = search needs
 
 loop-again : tie.Need-loop-again Inv-loop μ-loop
 loop-again c =
-    let c10 = c .before .before .before .before .before .before .before .before .before .before in
-    let c14 = c10 .before .before .before .before in
-    let c16 = c14 .before .before in
-    let c17 = c16 .before in
-    let c23 = c17 .before .before .before .before .before .before in
-    let a = c23 .args in
-    let i = c17 .loop .i in
-    next _ _ _ _ _ _ _ _ _ _ (c17 .loop .inv) (64 * i + 64 - 64 * i) (omega arith) _
-    (c14 .request-in .ensures ∙ ap requestOf (rest-part (a .requests .now) (requestWidth * i))) (c10 .serve-one .result) _ _ _ (c10 .serve-one .ensures)
-    (answerWidth * i + answerWidth - answerWidth * i) _ (c10 .serve-one .kept .1 .0 ∙ c17 .loop .inv .long)
-    (c10 .serve-one .kept .1 .1 .0 ∙ simp (length-take, length-drop) (omega (arith, c17 .loop .inv .sheets .size, c23 .pre .1 .0 .sheets, c16 .loop-test .taken)))
-    (c16 .loop-test .taken) (c23 .pre .1 .0 .sheets) (c23 .pre .1 .0 .answers) (omega arith)
+    let s = c .before .before .before .before .before .before .before .before .before .before .before .before .before .before .before .before .before .before .before .before .before .before .before in
+    let so = c .before .before .before .before .before .before .before .before .before .before .before .before .before .before .before .before .before .loop .inv in
+    let i = c .before .before .before .before .before .before .before .before .before .before .before .before .before .before .before .before .before .loop .i in
+    let more = c .before .before .before .before .before .before .before .before .before .before .before .before .before .before .before .before .loop-test .taken in
+    let served = c .before .before .before .before .before .before .before .before .before .before .request in
+    next _ _ _ _ _ _ _ _ so (64 * i + 64 - 64 * i) (omega arith)
+    (simp (length-take, length-drop) (omega (arith, so .sheets .size, s .pre .1 .0 .sheets, more))) _
+    (c .before .before .before .before .before .before .before .before .before .before .before .before .before .before .request-in .ensures ∙ ap requestOf (rest-part (s .args .requests .now) (requestWidth * i))) (served .result) _ _ _ (served .ensures)
+    (answerWidth * i + answerWidth - answerWidth * i) _ (served .kept .1 .0 ∙ so .long)
+    (served .kept .1 .1 .0 ∙ simp (length-take, length-drop) (omega (arith, so .sheets .size, s .pre .1 .0 .sheets, more)))
+    more (s .pre .1 .0 .sheets) (s .pre .1 .0 .answers) (omega arith)
     (c .before .before .put-answer .ensures)
 
 same-length : tie.Need-same-length Inv-loop μ-loop
 same-length c =
     let c7 = c .before .before .before .before .before .before .before in
-    image-whole _ (still-image _ _ _ _ _ _ _ _ _ _ (c .before .loop .inv)) ∙ sym (image-whole (c7 .args .tables .now) (c7 .pre .0))
+    image-whole _ (still-image _ _ _ _ _ _ _ _ (c .before .loop .inv)) ∙ sym (image-whole (c7 .args .tables .now) (c7 .pre .0))
 
 same-length-2 : tie.Need-same-length-2 Inv-loop μ-loop
 same-length-2 c =
@@ -157,7 +154,7 @@ same-length-4 c = c .before .loop .inv .answers .size
 returns : tie.Need-returns Inv-loop μ-loop
 returns c =
     let c7 = c .before .before .before .before .before .before .before in
-    ends _ _ _ _ _ _ _ _ _ _ (c .before .loop .inv) (omega (arith, c .loop-test .left)) (c7 .pre .1 .0 .sheets) (c7 .pre .1 .0 .answers)
+    ends _ _ _ _ _ _ _ _ (c .before .loop .inv) (omega (arith, c .loop-test .left)) (c7 .pre .1 .0 .sheets) (c7 .pre .1 .0 .answers)
 
 pub serve-all-spec : {M : Type 1} → statement M
 serve-all-spec =
@@ -174,10 +171,10 @@ serve-all-spec =
     request-in-requires
     mul-at
     add-end
-    sub-serve-one
-    part-serve-one-start
-    part-serve-one-end
-    serve-one-requires
+    sub-request
+    part-request-start
+    part-request-end
+    request-requires
     mul-into
     add-upto
     mul-put-answer

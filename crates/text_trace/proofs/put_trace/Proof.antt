@@ -36,7 +36,7 @@ returns c =
     let input = a .input .now in
     let here = dockOf (a .tables .now) (a .store .now) in
     let bad = too-long input (c .before .before .before .before .if1 .taken) in
-    let same = same-dock (a .sure) _ _ (λ j. omega (arith, known .slice-known .given j)) (known .before .pre) in (
+    let same = same-dock _ _ (λ j. omega (arith, known .slice-known .given j)) (known .before .pre) in (
       refused-trace _ _ _ (c .before .before .before .before .before .before .before .append .ensures) here input _ _ bad (c .before .before .append-other .ensures),
       refused-leaves here input bad same,
     )
@@ -62,7 +62,7 @@ returns-2 c =
     let input = a .input .now in
     let here = dockOf (a .tables .now) (a .store .now) in
     let bad = other-names input _ (c .before .before .before .before .before .before .first-line .ensures) (not-true _ (c .before .before .before .before .if2 .taken)) in
-    let same = same-dock (a .sure) _ _ (λ j. omega (arith, known .slice-known .given j)) (known .before .pre) in (
+    let same = same-dock _ _ (λ j. omega (arith, known .slice-known .given j)) (known .before .pre) in (
       refused-trace _ _ _ (c .before .before .before .before .before .before .before .before .before .before .before .append .ensures) here input _ _ bad (c .before .before .append-other2 .ensures),
       refused-leaves here input bad same,
     )

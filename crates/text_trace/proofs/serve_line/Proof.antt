@@ -41,18 +41,18 @@ returns c =
     let text = other-text image bytes line (a .number) _ (c6 .read-line .ensures) other in (
       append-as _ _ _ _ _ _ (sym text) (c .before .before .append-other .ensures),
       other-holds image bytes line (a .number) _ (c6 .read-line .ensures) other
-          (same-dock (a .sure) image bytes (λ j. omega (arith, c10 .slice-known .given j)) (p .0)),
+          (same-dock image bytes (λ j. omega (arith, c10 .slice-known .given j)) (p .0)),
     )
 
-slice-aggregate-serve-one : tie.Need-slice-aggregate-serve-one
-slice-aggregate-serve-one c = search needs
+slice-aggregate-request : tie.Need-slice-aggregate-request
+slice-aggregate-request c = search needs
 
-serve-one-requires : tie.Need-serve-one-requires
-serve-one-requires c κs =
+request-requires : tie.Need-request-requires
+request-requires c κs =
     let c6 = c .before .before .before .before .before .before in
     let c11 = c6 .before .before .before .before .before in
     let p = c11 .pre .0 in
-    (p .is, (record { store = p .store; sheet = length-replicate {A = ℕ} 64 (c6 .read-line .result .fill) }, p .order))
+    record { is = p .is; order = p .order; lengths = record { store = p .store; sheet = length-replicate {A = ℕ} 64 (c6 .read-line .result .fill) } }
 
 slice-aggregate-first-byte : tie.Need-slice-aggregate-first-byte
 slice-aggregate-first-byte c = search needs
@@ -61,7 +61,7 @@ first-byte-requires : tie.Need-first-byte-requires
 first-byte-requires c κs =
     let c6 = c .before .before .before .before .before .before in
     let c13 = c6 .before .before .before .before .before .before .before in
-    omega (arith, c6 .serve-one .kept .1 .1 .0, length-replicate {A = ℕ} 64 (c13 .read-line .result .fill))
+    omega (arith, c6 .request .kept .1 .1 .0, length-replicate {A = ℕ} 64 (c13 .read-line .result .fill))
 
 append-answer-requires : tie.Need-append-answer-requires
 append-answer-requires c κs =
@@ -71,8 +71,8 @@ append-answer-requires c κs =
     let c20 = c15 .before .before .before .before .before in
     let a = c20 .args in
     let p = c20 .pre in
-    let text = served-text (a .tables .now) (a .store .now) (a .line .now) (a .number) _ (c15 .read-line .ensures) (not-false _ (c13 .if1 .left))
-    (c8 .serve-one .result) _ _ _ (c8 .serve-one .ensures) _ (c .before .first-byte .ensures) in
+    let text = served-text (a .tables .now) (a .store .now) (a .line .now) (a .number) _ (c15 .read-line .ensures) (not-false _ (c13 .if1 .left)) (p .0)
+    (c8 .request .result) _ _ _ (c8 .request .ensures) _ (c .before .first-byte .ensures) in
     subst (Countable (a .at)) text (p .1)
 
 same-length-2 : tie.Need-same-length-2
@@ -97,9 +97,9 @@ returns-2 c =
     let bytes = a .store .now in
     let line = a .line .now in
     let formed = not-false _ (c16 .if1 .left) in
-    let text = served-text image bytes line (a .number) _ (c18 .read-line .ensures) formed (c11 .serve-one .result) _ _ _ (c11 .serve-one .ensures) _ (c4 .first-byte .ensures) in (
+    let text = served-text image bytes line (a .number) _ (c18 .read-line .ensures) formed (p .0) (c11 .request .result) _ _ _ (c11 .request .ensures) _ (c4 .first-byte .ensures) in (
       append-as _ _ _ _ _ _ (sym text) (c .before .before .append-answer .ensures),
-      served-holds image bytes line (a .number) _ (c18 .read-line .ensures) formed (c11 .serve-one .result) _ _ _ (c11 .serve-one .ensures),
+      served-holds image bytes line (a .number) _ (c18 .read-line .ensures) formed (p .0) (c11 .request .result) _ _ _ (c11 .request .ensures),
     )
 
 pub serve-line-spec : {M : Type 1} → statement M
@@ -110,8 +110,8 @@ serve-line-spec =
     append-other-requires
     same-length
     returns
-    slice-aggregate-serve-one
-    serve-one-requires
+    slice-aggregate-request
+    request-requires
     slice-aggregate-first-byte
     first-byte-requires
     append-answer-requires

@@ -11,11 +11,11 @@ use Rattle.text_trace.proofs.serve_lines.Statement.{statement}
 use Rattle.text_trace.proofs.serve_lines.Tie as tie
 
 abbrev Inv-loop : tie.InvT-loop
-Inv-loop tables₀ store₀ sure input start out₀ at from₀ done₀ total₀ tables store out from done total =
-    Going (dockOf tables₀ store₀) sure input start out₀ at tables store out from done total
+Inv-loop tables₀ store₀ input start out₀ at from₀ done₀ total₀ tables store out from done total =
+    Going (dockOf tables₀ store₀) input start out₀ at tables store out from done total
 
 abbrev μ-loop : tie.MeasureT-loop
-μ-loop tables₀ store₀ sure input start out₀ at from₀ done₀ total₀ tables store out from done total =
+μ-loop tables₀ store₀ input start out₀ at from₀ done₀ total₀ tables store out from done total =
     length input + 1 - from
 
 loop-holds : tie.Need-loop-holds Inv-loop μ-loop
@@ -24,7 +24,7 @@ loop-holds c =
     let c4 = c3 .before in
     let a = c4 .args in
     let p = c4 .pre in
-    begins (a .sure) (a .tables .now) (a .store .now) (a .input .now) (a .start) (a .out .now) (a .at) (λ j. omega (arith, c3 .slice-known .given j)) (p .0) (p .1 .0)
+    begins (a .tables .now) (a .store .now) (a .input .now) (a .start) (a .out .now) (a .at) (λ j. omega (arith, c3 .slice-known .given j)) (p .0) (p .1 .0)
     (p .1 .1)
 
 sub-find : tie.Need-sub-find Inv-loop μ-loop
@@ -42,7 +42,7 @@ find-requires c κs = search needs
 add-end : tie.Need-add-end Inv-loop μ-loop
 add-end c =
     let c3 = c .before .before .before in
-    omega (arith, line-inside _ _ _ _ _ _ _ _ _ _ _ _ (c3 .loop .inv) _ (c .find .ensures) (c .before .before .loop-test .taken))
+    omega (arith, line-inside _ _ _ _ _ _ _ _ _ _ _ (c3 .loop .inv) _ (c .find .ensures) (c .before .before .loop-test .taken))
 
 add-number : tie.Need-add-number Inv-loop μ-loop
 add-number c =
@@ -60,14 +60,14 @@ part-serve-line-end : tie.Need-part-serve-line-end Inv-loop μ-loop
 part-serve-line-end c =
     let c4 = c .before .before .before .before in
     let c5 = c4 .before in
-    omega (arith, line-inside _ _ _ _ _ _ _ _ _ _ _ _ (c5 .loop .inv) _ (c .before .before .find .ensures) (c4 .loop-test .taken))
+    omega (arith, line-inside _ _ _ _ _ _ _ _ _ _ _ (c5 .loop .inv) _ (c .before .before .find .ensures) (c4 .loop-test .taken))
 
 serve-line-requires : tie.Need-serve-line-requires Inv-loop μ-loop
 serve-line-requires c κs =
     let c4 = c .before .before .before .before in
     let c6 = c4 .before .before in
     let c7 = c6 .before in
-    (c7 .loop .inv .ready, line-bound _ _ _ _ _ _ _ _ _ _ _ _ (c7 .loop .inv) _ (c4 .find .ensures) (c6 .loop-test .taken))
+    (c7 .loop .inv .ready, line-bound _ _ _ _ _ _ _ _ _ _ _ (c7 .loop .inv) _ (c4 .find .ensures) (c6 .loop-test .taken))
 
 add-from : tie.Need-add-from Inv-loop μ-loop
 add-from c =
@@ -75,14 +75,14 @@ add-from c =
     let c13 = c11 .before .before in
     let c14 = c13 .before in
     let c19 = c14 .before .before .before .before .before in
-    omega (arith, line-inside _ _ _ _ _ _ _ _ _ _ _ _ (c14 .loop .inv) _ (c11 .find .ensures) (c13 .loop-test .taken), c19 .pre .1 .0 .short)
+    omega (arith, line-inside _ _ _ _ _ _ _ _ _ _ _ (c14 .loop .inv) _ (c11 .find .ensures) (c13 .loop-test .taken), c19 .pre .1 .0 .short)
 
 loop-less : tie.Need-loop-less Inv-loop μ-loop
 loop-less c =
     let c11 = c .before .before .before .before .before .before .before .before .before .before .before in
     let c13 = c11 .before .before in
     let c14 = c13 .before in
-    omega (arith, line-inside _ _ _ _ _ _ _ _ _ _ _ _ (c14 .loop .inv) _ (c11 .find .ensures) (c13 .loop-test .taken))
+    omega (arith, line-inside _ _ _ _ _ _ _ _ _ _ _ (c14 .loop .inv) _ (c11 .find .ensures) (c13 .loop-test .taken))
 
 loop-again : tie.Need-loop-again Inv-loop μ-loop
 loop-again c =
@@ -91,7 +91,7 @@ loop-again c =
     let c13 = c11 .before .before in
     let c14 = c13 .before in
     let line = c6 .serve-line in
-    next _ _ _ _ _ _ _ _ _ _ _ _ (c14 .loop .inv) _ (c11 .find .ensures) (c13 .loop-test .taken) _ _ _ _ (line .ensures .0) (line .ensures .1) (line .kept .1 .0)
+    next _ _ _ _ _ _ _ _ _ _ _ (c14 .loop .inv) _ (c11 .find .ensures) (c13 .loop-test .taken) _ _ _ _ (line .ensures .0) (line .ensures .1) (line .kept .1 .0)
 
 same-length : tie.Need-same-length Inv-loop μ-loop
 same-length c =
@@ -110,7 +110,7 @@ returns : tie.Need-returns Inv-loop μ-loop
 returns c =
     let c6 = c .before .before .before .before .before .before in
     let past : length (c6 .args .input .now) ≤ c .before .loop .from = omega (arith, c .loop-test .left) in
-    (ends _ _ _ _ _ _ _ _ _ _ _ _ (c .before .loop .inv) past, end-holds _ _ _ _ _ _ _ _ _ _ _ _ (c .before .loop .inv) past)
+    (ends _ _ _ _ _ _ _ _ _ _ _ (c .before .loop .inv) past, end-holds _ _ _ _ _ _ _ _ _ _ _ (c .before .loop .inv) past)
 
 pub serve-lines-spec : {M : Type 1} → statement M
 serve-lines-spec =

@@ -30,13 +30,8 @@ returns-3 c =
     bad-tables (traceBuffers (a .tables .now) (a .store .now) (a .input .now) (a .output .now)) (c .before .before .before .before .if1 .left) (c .before .before .before .if2 .left)
     (tables-bad (a .tables .now) (c .before .image-in-order .ensures) (c .if3 .taken))
 
-no-far-child-requires : tie.Need-no-far-child-requires
-no-far-child-requires c κs = search needs
-
 fits-requires : tie.Need-fits-requires
-fits-requires c κs =
-    let order = c .before .before .before .before .before in
-    tested _ _ (order .image-in-order .ensures) (c .before .before .before .before .if3 .left) (c .before .before .no-far-child .ensures) (order .before .before .if2 .left)
+fits-requires c κs = tested _ _ (c .before .before .before .image-in-order .ensures) (c .before .before .if3 .left) (c .before .before .before .before .before .if2 .left)
 
 same-length-2 : tie.Need-same-length-2
 same-length-2 c = search needs
@@ -46,16 +41,13 @@ same-length-3 c = search needs
 
 returns-4 : tie.Need-returns-4
 returns-4 c =
-    let order = c .before .before .before .before .before .before .before in
-    let a = order .before .before .before .before .before .before .before .before .args in
-    let good = tables-ok (a .tables .now) (order .image-in-order .ensures) (c .before .before .before .before .before .before .if3 .left) in
-    too-short (traceBuffers (a .tables .now) (a .store .now) (a .input .now) (a .output .now)) (order .before .before .before .if1 .left) (order .before .before .if2 .left)
+    let a = c .before .before .before .before .before .before .before .before .before .before .before .before .before .args in
+    let good = tables-ok (a .tables .now) (c .before .before .before .before .before .image-in-order .ensures) (c .before .before .before .before .if3 .left) in
+    too-short (traceBuffers (a .tables .now) (a .store .now) (a .input .now) (a .output .now)) (c .before .before .before .before .before .before .before .before .if1 .left) (c .before .before .before .before .before .before .before .if2 .left)
     good (sym (c .before .fits2 .ensures) ∙ not-true _ (c .if4 .taken))
 
 put-trace-requires : tie.Need-put-trace-requires
-put-trace-requires c κs =
-    let order = c .before .before .before .before .before .before .before .before .before .before in
-    tested _ _ (order .image-in-order .ensures) (c .before .before .before .before .before .before .before .before .before .if3 .left) (c .before .before .before .before .before .before .before .no-far-child .ensures) (order .before .before .if2 .left)
+put-trace-requires c κs = tested _ _ (c .before .before .before .before .before .before .before .before .image-in-order .ensures) (c .before .before .before .before .before .before .before .if3 .left) (c .before .before .before .before .before .before .before .before .before .before .if2 .left)
 
 same-length-4 : tie.Need-same-length-4
 same-length-4 c = search needs
@@ -68,12 +60,11 @@ same-length-6 c = search needs
 
 returns-5 : tie.Need-returns-5
 returns-5 c =
-    let order = c .before .before .before .before .before .before .before .before .before .before .before .before .before .before .before .before .before in
-    let a = order .before .before .before .before .before .before .before .before .args in
-    let good = tables-ok (a .tables .now) (order .image-in-order .ensures) (c .before .before .before .before .before .before .before .before .before .before .before .before .before .before .before .before .if3 .left) in
+    let a = c .before .before .before .before .before .before .before .before .before .before .before .before .before .before .before .before .before .before .before .before .before .before .before .args in
+    let good = tables-ok (a .tables .now) (c .before .before .before .before .before .before .before .before .before .before .before .before .before .before .before .image-in-order .ensures) (c .before .before .before .before .before .before .before .before .before .before .before .before .before .before .if3 .left) in
     let fits = sym (c .before .before .before .before .before .before .before .before .before .before .before .fits2 .ensures) ∙ not-false _ (c .before .before .before .before .before .before .before .before .before .before .if4 .left) in
     let put = c .before .before .before .before .before .before .put-trace .ensures in
-    whole (traceBuffers (a .tables .now) (a .store .now) (a .input .now) (a .output .now)) (order .before .before .before .if1 .left) (order .before .before .if2 .left)
+    whole (traceBuffers (a .tables .now) (a .store .now) (a .input .now) (a .output .now)) (c .before .before .before .before .before .before .before .before .before .before .before .before .before .before .before .before .before .before .if1 .left) (c .before .before .before .before .before .before .before .before .before .before .before .before .before .before .before .before .before .if2 .left)
     good fits (put .0) (put .1)
 
 pub trace-lent-spec : {M : Type 1} → statement M
@@ -85,7 +76,6 @@ trace-lent-spec =
     image-in-order-requires
     same-length
     returns-3
-    no-far-child-requires
     fits-requires
     same-length-2
     same-length-3
