@@ -19,7 +19,7 @@ use Rattle.machine.specs.State.{State}
 use Rattle.machine.specs.Sequence.{Group}
 use Rattle.machine.specs.Isolation.{owns}
 use Rattle.preservation.proofs.AfterChange.{lookup-programs, no-entry-there}
-use Rattle.preservation.proofs.Walks.{reaches-same}
+use Rattle.tables.proofs.Links.{reaches-same}
 use Rattle.preservation.proofs.ChainSteps.{entry-fits}
 use Rattle.preservation.proofs.LentAway.{lent-away, lent-from}
 use Rattle.machine.specs.Recall.{lentAway}

@@ -15,7 +15,6 @@ use Rattle.tables.specs.declared.{Name.Name, Tables.Tables}
 use Rattle.tables.specs.Names.{eqName}
 use Rattle.tables.specs.Lookup.{lookup, entryOf}
 use Rattle.tables.specs.Chains.{atOrUnder, chainHead, atOrBelow}
-use Rattle.tables.specs.Change.{dropTickets}
 use Rattle.machine.specs.declared.Request.{Request}
 use Rattle.machine.specs.State.{State, Outcome, answerOf, accepted, refused, withTables, sheetAt, putSheets, clearSheets, askedName, asked}
 use Rattle.machine.specs.Operation.{Operation, taking, passing, recalling, givingBack, reading, writing, operationOf, usedBy, fieldsOk}

@@ -5,7 +5,7 @@ use Prim.Native.Nat.{ℕ, _+_, _*_, _≤_, _<_}
 use native.Mathlib.Omega.{arith}
 use mathlib.Core.Path.{_≡_, refl, sym, ap, _∙_, subst}
 use mathlib.Core.Logic.{_⊎_, inl, inr}
-use mathlib.Core.Bool.{Bool, true, false, _||_, cond}
+use mathlib.Core.Bool.{Bool, true, false, cond}
 use mathlib.Core.List.{map}
 use lib.Dec.{eqb}
 use lib.ListN.{length, getD, replicate, length-replicate, length-map}
@@ -38,7 +38,7 @@ use Rattle.preservation.specs.InOrder.{InOrder, DockOk}
 use Rattle.preservation.proofs.SheetTests.{apart-sym, run-fits, beside}
 use Rattle.preservation.proofs.AfterChange.{removed, entry-removed, no-entry-there}
 use Rattle.preservation.proofs.ChainSteps.{head-is-dock, within-entry, entry-fits}
-use Rattle.preservation.proofs.RemovingOperations.{drop-no-entry}
+use Rattle.tables.proofs.Keys.{drop-no-entry}
 use Rattle.preservation.proofs.LentAway.{lent-from}
 use Rattle.tables.proofs.KindLaws.{live-recall}
 use Rattle.preservation.proofs.Taking.{MayTake, TakeEffect, take-effect}

@@ -21,7 +21,7 @@ use Rattle.machine.specs.Isolation.{owns}
 use Rattle.preservation.specs.InOrder.{DockOk}
 use Rattle.preservation.proofs.AfterChange.{removed, lookup-removed, entry-removed, last-removed, tickets-removed}
 use Rattle.preservation.proofs.ChainSteps.{entry-fits}
-use Rattle.preservation.proofs.RemovingOperations.{drop-no-entry}
+use Rattle.tables.proofs.Keys.{drop-no-entry}
 use Rattle.preservation.proofs.StoreSheets.{length-put, sheet-kept, sheet-put}
 use Rattle.isolation.specs.Alike.{blur, blurEntry, Mine, sheetIn, Alike}
 use Rattle.isolation.proofs.Sides.{dock-side}

@@ -10,7 +10,7 @@ use Rattle.tables.specs.declared.{Name.Name, Tables.Tables}
 use Rattle.tables.specs.declared.Kind.the-variants.{Taken}
 use Rattle.tables.specs.Names.{nameOf, recallTicket, emptyTables}
 use Rattle.tables.specs.Change.{give}
-use Rattle.tables.proofs.Building.{head, child, withTaken, withLast}
+use Rattle.tables.proofs.Building.{head, child, withTaken, withReceived, withLast}
 use Rattle.machine.specs.Dock.{dockCheck}
 use Rattle.machine.specs.Empty.{emptyStore, emptyDock}
 use Rattle.machine.proofs.CaseLines.{Line, line, gives, holds, leaves}
@@ -26,6 +26,10 @@ abbrev pub farChild : Tables
 farChild =
     let granted = withTaken (nameOf 1 0 1) 1 1 7 (withTaken (nameOf 0 0 1) 0 1 7 emptyTables) in
     give (give granted 0 0 (recallTicket 2 1 (nameOf 1 1 1))) 1 1 (child 1 (nameOf 1 0 1) 1 1 7 (nameOf 1 0 1))
+
+-- (1,0) has a loan of (0,0)'s taken grant, and no recall names it
+abbrev pub unrecalled : Tables
+unrecalled = withReceived (nameOf 1 0 1) (nameOf 0 0 1) 0 1 1 (withTaken (nameOf 0 0 1) 0 1 7 emptyTables)
 
 -- ---- cases from states that a host can lend
 pub record Start : Type 0 where
@@ -51,6 +55,8 @@ starts =
     record { tables = outOfOrder; store = emptyStore; lines = line 4 0 0 0 0 0 0 0 0 0 (gives 14 0 0 0) ∷ [] } ∷
     -- "no recall names a live child of another pad"
     record { tables = farChild; store = emptyStore; lines = line 0 0 3 2 0 0 0 0 0 0 (gives 14 0 0 0) ∷ [] } ∷
+    -- "every entry below another has exactly one live recall naming it"
+    record { tables = unrecalled; store = emptyStore; lines = line 1 0 5 1 0 0 0 0 0 0 (gives 14 0 0 0) ∷ [] } ∷
     -- places and numbers spent; the last number is still given
     record {
       tables = withLast 0 0 65534 emptyTables;

@@ -1,47 +1,22 @@
 -- Removal after removal: where what went was closed under below, the next entry that goes takes with it exactly what was below it at first.
 -- So several entries go one after the other as they would at once (02, 1/13).
-use Prim.Native.Nat.{ℕ, zero, suc, _<_}
+use Prim.Native.Nat.{ℕ, _<_}
 use mathlib.Core.Path.{_≡_, refl, sym, ap, _∙_, subst}
 use mathlib.Core.Bool.{Bool, true, false, _&&_, _||_, cond}
 use mathlib.Core.List.{List, map}
 use lib.ListN.{length}
 use Rattle.lists.proofs.Tests.{Case, pass, fail, case, no-true, not-pass, and-intro, and-false, or-left}
 use Rattle.lists.proofs.Keyed.{drop-found, drop-distinct, dropped-at, dropped-length}
-use Rattle.tables.specs.declared.{Name.Name, Entry.Entry, Tables.Tables}
-use Rattle.tables.specs.Names.{eqName, noName, isNone, noEntry}
+use Rattle.tables.specs.declared.{Name.Name, Entry.Entry}
+use Rattle.tables.specs.Names.{isNone, noEntry}
 use Rattle.tables.specs.Lookup.{isNamed, entryIn}
-use Rattle.tables.specs.Chains.{reaches, endOf, entryParent, atOrBelow}
-use Rattle.tables.specs.Change.{dropEntry, dropEntries}
+use Rattle.tables.specs.Chains.{reaches, entryParent}
+use Rattle.tables.specs.Change.{dropEntry}
 use Rattle.tables.proofs.Keys.{entryKeys, entryLaws}
 use Rattle.tables.proofs.ByPlace.{at}
-use Rattle.tables.proofs.Links.{reaches-here, reaches-next, end-here, end-next}
+use Rattle.tables.proofs.Links.{reaches-same, end-same}
 use Rattle.op_drop_entries.specs.Links.{LinkedEntries}
 use Rattle.op_drop_entries.proofs.Reaching.{reaches-up, under, at-name, dropped-by-places}
-
--- two maps of parents that agree along the chains of the good names have the same walks and the same ends (the first is in preservation/Walks too)
-module _ (p q : Name → Name) (good : Name → Type 0) (same : (n : Name) → good n → p n ≡ q n)
-    (climbs : (n : Name) → good n → isNone (q n) ≡ false → good (q n)) where
-  walk-same : (x : Name) (left : ℕ) (n : Name) → good n → reaches left p n x ≡ reaches left q n x
-  unfolding reaches
-  walk-same x zero n h = refl
-  walk-same x (suc left) n h = go (case (isNone (q n))) (walk-same x left (q n))
-    where
-      go : Case (isNone (q n)) → (good (q n) → reaches left p (q n) x ≡ reaches left q (q n) x) → reaches (suc left) p n x ≡ reaches (suc left) q n x
-      go (pass e) ih = reaches-here p x left n (ap isNone (same n h) ∙ e) ∙ sym (reaches-here q x left n e)
-      go (fail e) ih =
-          reaches-next p x left n (ap isNone (same n h) ∙ e)
-          ∙ ap (λ (b : Bool). eqName n x || b) (ap (λ (m : Name). reaches left p m x) (same n h) ∙ ih (climbs n h e))
-          ∙ sym (reaches-next q x left n e)
-
-  end-same : (left : ℕ) (n : Name) → good n → endOf left p n ≡ endOf left q n
-  unfolding endOf
-  end-same zero n h = refl
-  end-same (suc left) n h = go (case (isNone (q n))) (end-same left (q n))
-    where
-      go : Case (isNone (q n)) → (good (q n) → endOf left p (q n) ≡ endOf left q (q n)) → endOf (suc left) p n ≡ endOf (suc left) q n
-      go (pass e) ih = end-here p left n (ap isNone (same n h) ∙ e) ∙ sym (end-here q left n e)
-      go (fail e) ih =
-          end-next p left n (ap isNone (same n h) ∙ e) ∙ ap (endOf left p) (same n h) ∙ ih (climbs n h e) ∙ sym (end-next q left n e)
 
 long : (gone : Name → Bool) (es : List Entry) → length (map (dropEntry gone) es) ≡ length es
 unfolding dropEntry
@@ -99,8 +74,14 @@ module _ (es : List Entry) (ok : LinkedEntries es) (cut : Name → Bool) (closed
   parents : (n : Name) → Good n → entryIn us n .parent ≡ entryIn es n .parent
   parents n h = ap (λ (e : Entry). e .parent) (same n h)
 
+  ends : (n : Name) → Good n → isNone (entryIn us n .parent) ≡ isNone (entryIn es n .parent)
+  ends n h = ap isNone (parents n h)
+
+  links : (n : Name) → Good n → isNone (entryIn us n .parent) ≡ false → (entryIn us n .parent ≡ entryIn es n .parent) × Good (entryIn us n .parent)
+  links n h z = (parents n h, subst Good (sym (parents n h)) (climbs n h (sym (ends n h) ∙ z)))
+
   pub under-again : (x n : Name) → entryIn us n .live ≡ true → under us x n ≡ under es x n
-  under-again x n l = walk-same (entryParent (entryIn us)) (entryParent (entryIn es)) Good parents climbs x 256 n (stays n l)
+  under-again x n l = reaches-same (entryParent (entryIn us)) (entryParent (entryIn es)) Good ends links x 256 n (stays n l)
 
   distinct-left : (i j : ℕ) → i < length us → j < length us → at us i .live ≡ true → at us j .live ≡ true → at us i .name ≡ at us j .name → i ≡ j
   unfolding dropEntry
@@ -117,7 +98,7 @@ module _ (es : List Entry) (ok : LinkedEntries es) (cut : Name → Bool) (closed
         ap (λ (m : Name). entryIn us m .live) (parents n h) ∙ ap (λ (e : Entry). e .live) (same (entryIn es n .parent) g) ∙ g .0;
     ends = λ n l.
         let h = stays n l in
-        ap isNone (end-same (entryParent (entryIn us)) (entryParent (entryIn es)) Good parents climbs 256 n h) ∙ ok .ends n (h .0);
+        ap isNone (end-same (entryParent (entryIn us)) (entryParent (entryIn es)) Good ends links 256 n h) ∙ ok .ends n (h .0);
   }
 
   -- at one place: first the one removal, then the other

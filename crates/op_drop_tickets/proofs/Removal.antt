@@ -11,7 +11,7 @@ use Rattle.lists.proofs.Tests.{contradiction, and-intro}
 use Rattle.lists.proofs.PartLaws.{getD-tabulate}
 use Rattle.tables.specs.declared.{Name.Name, Tables.Tables}
 use Rattle.tables.specs.Kinds.{isLive, isHead}
-use Rattle.tables.specs.Names.{nameOf, eqName}
+use Rattle.tables.specs.Names.{nameOf}
 use Rattle.tables.specs.Lookup.{Sized, ticketsOf, lookup, ticketIn}
 use Rattle.tables.specs.Chains.{atOrUnder}
 use Rattle.tables.specs.Change.{dropTickets}
@@ -24,7 +24,7 @@ use Rattle.image_write.specs.Shows.{Holds}
 use Rattle.image_pads.specs.Places.{onPad}
 use Rattle.image_pads.proofs.Rows.{on-pad}
 use Rattle.op_clear_tickets.specs.Cleared.{isMarked, among, Cleared}
-use Rattle.op_drop_tickets.specs.Marks.{goes, underOn, markOf, marksOf}
+use Rattle.op_drop_tickets.specs.Marks.{alsoUnder, goes, underOn, markOf, marksOf}
 use Rattle.op_drop_tickets.specs.Docked.{dockedWith, dockedTo, dockedOn, Heads}
 use Rattle.op_drop_tickets.specs.Linked.{Linked}
 use Rattle.op_clear_tickets.proofs.Laws.{is-among, holds-dropped}
@@ -113,7 +113,7 @@ module _ (t : Tables) (z : Sized t) (link : Linked t) (a : ℕ) (low : a < 4) wh
 
 -- ---- `also`, x and all under x
 module _ (t : Tables) (z : Sized t) (link : Linked t) (also x : Name) (low : x .pad < 4) (beside : also .pad ≡ x .pad) where
-  pub under-agrees : Agrees t (x .pad) (underOn t also x) (λ n. eqName n also || atOrUnder t x n)
+  pub under-agrees : Agrees t (x .pad) (underOn t also x) (alsoUnder t also x)
   unfolding underOn goes
   under-agrees b i b8 i8 l =
       let n : Name = itsName t z link (x .pad) low b i b8 i8 l in
@@ -122,7 +122,7 @@ module _ (t : Tables) (z : Sized t) (link : Linked t) (also x : Name) (low : x .
       ∙ (λ j. name-marks t z link (x .pad) low also beside n h j
       || leads t z link (x .pad) low 64 n h (place t z link (x .pad) low x) x (name-marks t z link (x .pad) low x refl) j)
 
-  pub under-spares : Spares t (x .pad) (λ n. eqName n also || atOrUnder t x n)
+  pub under-spares : Spares t (x .pad) (alsoUnder t also x)
   under-spares n ne l =
       let h : Away t z link (x .pad) low n = record { pad = ne; live = l } in
       λ j. name-missed t z link (x .pad) low also beside n h j || far t z link (x .pad) low 64 n h x (name-missed t z link (x .pad) low x refl) j
@@ -130,11 +130,11 @@ module _ (t : Tables) (z : Sized t) (link : Linked t) (also x : Name) (low : x .
 pub under-removed : (before after marks : List ℕ) → Linked (decode before) → (also x : Name) → x .pad < 4 → also .pad ≡ x .pad
     → marks ≡ marksOf (underOn (decode before) also x) → (pad : ℕ) → pad ≡ x .pad
     → Cleared (64 * pad) 64 (λ p. isMarked marks (p - 64 * pad)) before after
-    → Holds after (dropTickets (λ n. eqName n also || atOrUnder (decode before) x n) (decode before))
+    → Holds after (dropTickets (alsoUnder (decode before) also x) (decode before))
 under-removed before after marks link also x low beside e pad q c =
     holds-unmarked before after marks (x .pad)
     (subst (λ (a : ℕ). Cleared (64 * a) 64 (λ p. isMarked marks (p - 64 * a)) before after) q c) (underOn (decode before) also x) e
-    (λ n. eqName n also || atOrUnder (decode before) x n)
+    (alsoUnder (decode before) also x)
     (under-agrees (decode before) (decoded-sized before) link also x low beside) (under-spares (decode before) (decoded-sized before) link also x low beside)
 
 -- ---- the head of a chain and all under it

@@ -1,8 +1,8 @@
-// Removal on a pad, in the image: a ticket with all under it, the head of a chain with all under it, and one ticket by itself.
+// Removal on a pad, in the image: the head of a chain with all under it, and one ticket by itself; and what is under a ticket, marked.
 // What goes is marked first, so that no test reads what was cleared.
 ghost use Prim.Native.Nat.{_<_};
 ghost use mathlib.Core.Path.{_≡_};
-ghost use mathlib.Core.Bool.{true, _||_};
+ghost use mathlib.Core.Bool.{true};
 ghost use lib.ListN.{length};
 ghost use Rattle.tables.specs.Kinds.{isHead};
 ghost use Rattle.tables.specs.Names.{nameOf, eqName};
@@ -118,16 +118,6 @@ fn mark_docked(image: &[u8], d: Name, marks: &mut [u8])
 }
 
 // ---- for callers
-
-// The tables without `also`, x and all under x.
-pub fn drop_under(image: &mut [u8], also: Name, x: Name)
-    requires { ⌜ (isImage (now image) ≡ true) × (Linked (decode (now image)) × ((x .pad < 4) × (also .pad ≡ x .pad))) ⌝ }
-    ensures { λ _. ⌜ Holds (now (image .exit)) (dropTickets (λ n. eqName n also || atOrUnder (decode (now (image .entry))) x n) (decode (now (image .entry)))) ⌝ }
-{
-    let mut marks = [0u8; 64];
-    mark_under(image, also, x, &mut marks);
-    op_clear_tickets::clear_marked(image, x.pad as usize, &marks);
-}
 
 // The tables without the head of a chain and all under it: what is under it has its dock name, so nothing is walked.
 pub fn drop_head(image: &mut [u8], h: Name)

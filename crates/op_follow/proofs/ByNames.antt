@@ -1,6 +1,6 @@
--- What was lent away by the marks of a pad is what was lent away by names, where marks and names agree on the pad and the names pick no other pad's
--- live ticket.
-use Prim.Native.Nat.{ℕ, zero, suc, _+_, _-_, _*_, _/_, _%_, _≤_, _<_}
+-- What was lent away by the marks of a pad is what was lent away by names, where marks and names agree on the pad and the names pick no
+-- other pad's live ticket.
+use Prim.Native.Nat.{ℕ, zero, suc, _+_, _-_, _*_, _/_, _%_, _<_}
 use native.Mathlib.Omega.{arith}
 use native.Mathlib.Nat.{eq-or-lt-of-le, le-of-suc-le-suc}
 use mathlib.Core.Path.{_≡_, refl, sym, ap, _∙_, subst, fun-ext}
@@ -9,15 +9,14 @@ use mathlib.Core.Bool.{Bool, true, false, not, _&&_, _||_}
 use mathlib.Core.List.{List}
 use lib.Dec.{eqb}
 use lib.ListN.{length, getD}
-use borrow.Author.Tests.{eqb-true, eqb-false, not-true}
+use borrow.Author.Tests.{eqb-true, eqb-false}
 use Rattle.lists.proofs.Tests.{Case, pass, fail, case, no-true, contradiction, or-left, or-right, and-l, and-r, and-intro, both-ways}
 use Rattle.tables.specs.declared.{Name.Name, Ticket.Ticket, Tables.Tables}
-use Rattle.tables.specs.Kinds.{isLive, isRecall}
-use Rattle.tables.specs.Names.{nameOf, eqName}
+use Rattle.tables.specs.Kinds.{isRecall}
+use Rattle.tables.specs.Names.{nameOf}
 use Rattle.tables.specs.Lookup.{Sized, ticketsOf, lookup}
-use Rattle.tables.specs.Chains.{atOrUnder, atOrBelow}
+use Rattle.tables.specs.Chains.{atOrBelow}
 use Rattle.tables.specs.Change.{dropTickets, dropEntries}
-use Rattle.tables.specs.Order.{someTicket}
 use Rattle.tables.proofs.KindLaws.{live-recall}
 use Rattle.tables.proofs.ByPlace.{ticketAt, SomePlace, some-at, some-from}
 use Rattle.machine.specs.Recall.{lentAway}
@@ -27,11 +26,11 @@ use Rattle.image_find.proofs.Laws.{decoded-sized}
 use Rattle.image_pads.specs.Places.{onPad, numbersOf, upsOf}
 use Rattle.image_pads.proofs.Rows.{on-pad}
 use Rattle.op_clear_tickets.specs.Cleared.{isMarked, Cleared}
-use Rattle.op_drop_tickets.specs.Marks.{goes, underOn, marksOf}
+use Rattle.op_drop_tickets.specs.Marks.{alsoUnder, underOn, marksOf}
 use Rattle.op_drop_tickets.specs.Linked.{Linked}
 use Rattle.op_drop_tickets.proofs.Names.{live-named}
 use Rattle.op_drop_tickets.proofs.Removal.{mark-at, Agrees, Spares, under-agrees, under-spares, under-removed}
-use Rattle.op_follow.specs.Lent.{isLending, lentBy}
+use Rattle.op_follow.specs.Lent.{isLending, lentBy, withoutLoan}
 
 -- ---- the place that lends
 record LentAt (t : Tables) (pad : ℕ) (marks : List ℕ) (count : ℕ) (n : Name) : Type 0 where
@@ -171,7 +170,7 @@ unfolding dropEntries underOn numbersOf upsOf
 pads-same cut t also x = refl
 
 swapped : (cut : Name → Bool) (t : Tables) (also x : Name)
-    → dropTickets (λ n. eqName n also || atOrUnder (dropEntries cut t) x n) (dropEntries cut t) ≡ dropEntries cut (dropTickets (λ n. eqName n also || atOrUnder t x n) t)
+    → dropTickets (alsoUnder (dropEntries cut t) also x) (dropEntries cut t) ≡ dropEntries cut (dropTickets (alsoUnder t also x) t)
 unfolding dropEntries dropTickets lookup
 swapped cut t also x = refl
 
@@ -184,8 +183,7 @@ pub followed : (before middle after marks : List ℕ) → Linked (decode before)
     → marks ≡ marksOf (underOn (decode before) also x) → (pad : ℕ) → pad ≡ x .pad
     → Holds middle (dropEntries (lentBy (decode before) pad marks 64) (decode before))
     → Cleared (64 * pad) 64 (λ p. isMarked marks (p - 64 * pad)) middle after
-    → Holds after
-    (dropEntries (lentAway (decode before) (λ n. eqName n also || atOrUnder (decode before) x n)) (dropTickets (λ n. eqName n also || atOrUnder (decode before) x n) (decode before)))
+    → Holds after (withoutLoan (decode before) also x)
 followed before middle after marks link also x low beside e pad q holds c =
     let h = under-removed middle after marks link′ also x low beside (e ∙ marks-same) pad q c in
     record { is = h .is; tables = h .tables ∙ tables-same }
@@ -200,15 +198,14 @@ followed before middle after marks link also x low beside e pad q holds c =
     marks-same =
         ap marksOf (sym (pads-same (lentBy (decode before) pad marks 64) (decode before) also x)) ∙ ap (λ (u : Tables). marksOf (underOn u also x)) (sym (holds .tables))
 
-    lent : (n : Name) → cut n ≡ lentAway (decode before) (λ n. eqName n also || atOrUnder (decode before) x n) n
+    lent : (n : Name) → cut n ≡ lentAway (decode before) (alsoUnder (decode before) also x) n
     lent n =
         ap (λ (ms : List ℕ). lentBy (decode before) pad ms 64 n) e ∙ ap (λ (a : ℕ). lentBy (decode before) a (marksOf (underOn (decode before) also x)) 64 n) q
-        ∙ lent-by-names (decode before) (decoded-sized before) (x .pad) low (underOn (decode before) also x) (λ n. eqName n also || atOrUnder (decode before) x n)
+        ∙ lent-by-names (decode before) (decoded-sized before) (x .pad) low (underOn (decode before) also x) (alsoUnder (decode before) also x)
         (under-agrees (decode before) (decoded-sized before) link also x low beside) (under-spares (decode before) (decoded-sized before) link also x low beside) n
 
-    tables-same : dropTickets (λ n. eqName n also || atOrUnder (decode middle) x n) (decode middle)
-        ≡ dropEntries (lentAway (decode before) (λ n. eqName n also || atOrUnder (decode before) x n)) (dropTickets (λ n. eqName n also || atOrUnder (decode before) x n) (decode before))
+    tables-same : dropTickets (alsoUnder (decode middle) also x) (decode middle) ≡ withoutLoan (decode before) also x
     tables-same =
-        ap (λ (u : Tables). dropTickets (λ n. eqName n also || atOrUnder u x n) u) (holds .tables)
+        ap (λ (u : Tables). dropTickets (alsoUnder u also x) u) (holds .tables)
         ∙ swapped (lentBy (decode before) pad marks 64) (decode before) also x
-        ∙ ap (λ (f : Name → Bool). dropEntries f (dropTickets (λ n. eqName n also || atOrUnder (decode before) x n) (decode before))) (fun-ext lent)
+        ∙ ap (λ (f : Name → Bool). dropEntries f (dropTickets (alsoUnder (decode before) also x) (decode before))) (fun-ext lent)

@@ -1,10 +1,9 @@
 -- What the code's tests tell of a recall that lends away.
 use Prim.Native.Nat.{ℕ}
-use mathlib.Core.Path.{_≡_, refl, sym, ap, _∙_}
-use mathlib.Core.Bool.{Bool, true, false, not, _&&_}
+use mathlib.Core.Path.{_≡_}
+use mathlib.Core.Bool.{true, false, not}
 use lib.Dec.{eqb}
 use borrow.Author.Tests.{ne-eqb, eq-eqb}
-use Rattle.lists.proofs.Tests.{and-false}
 use Rattle.tables.specs.declared.Ticket.{Ticket}
 use Rattle.tables.specs.Kinds.{isRecall}
 use Rattle.op_follow.specs.Lent.{isLending}

@@ -1,36 +1,23 @@
 -- One place after the other: what goes stays closed under below, so that the next loan that goes takes with it what was below it at first.
-use Prim.Native.Nat.{ℕ, zero, suc, _+_, _*_, _<_}
+use Prim.Native.Nat.{ℕ, zero, suc, _+_}
 use native.Mathlib.Numerals.{add-one}
-use native.Mathlib.Omega.{arith}
 use mathlib.Core.Path.{_≡_, refl, sym, ap, _∙_, subst, fun-ext}
-use mathlib.Core.Bool.{Bool, true, false, _&&_, _||_}
+use mathlib.Core.Bool.{Bool, true, false, _&&_, _||_, or-false}
 use mathlib.Core.List.{List, map}
 use lib.ListN.{getD}
-use Rattle.lists.proofs.Tests.{Case, pass, fail, case, no-true, or-left, or-right, and-l, and-r, and-intro}
-use Rattle.lists.proofs.Everywhere.{map-id}
-use Rattle.lists.proofs.Keyed.{drop-none}
-use Rattle.tables.proofs.Keys.{entryKeys, entryLaws}
+use Rattle.lists.proofs.Tests.{Case, pass, fail, case, or-left, or-right, and-l, and-r, and-intro}
+use Rattle.tables.proofs.Keys.{drop-no-entry}
 use Rattle.tables.specs.declared.{Name.Name, Ticket.Ticket, Entry.Entry, Tables.Tables}
-use Rattle.tables.specs.Names.{isNone, free}
+use Rattle.tables.specs.Names.{isNone}
 use Rattle.tables.specs.Lookup.{entryIn}
 use Rattle.tables.specs.Chains.{atOrBelow}
 use Rattle.tables.specs.Change.{dropEntry, dropEntries}
 use Rattle.image.specs.Image.{decode, isImage}
 use Rattle.image_write.specs.Shows.{Holds}
 use Rattle.image_pads.specs.Places.{onPad}
-use Rattle.image_find.proofs.Laws.{flattened}
-use Rattle.image_read.specs.Places.{ticketsIn}
 use Rattle.op_drop_entries.specs.Links.{LinkedEntries}
 use Rattle.op_drop_entries.proofs.Again.{Closed, linked-again, dropped-again, under-closed}
 use Rattle.op_follow.specs.Lent.{isLending, lentBy}
-
-no-cut : (e : Entry) → dropEntry (λ n. false) e ≡ e
-unfolding dropEntry
-no-cut e = drop-none entryKeys entryLaws (λ n. false) e (λ l. refl)
-
-or-false : (b : Bool) → (b || false) ≡ b
-or-false true = refl
-or-false false = refl
 
 module _ (t : Tables) (linked : LinkedEntries (t .entries)) (pad : ℕ) (marks : List ℕ) where
   closed : (i : ℕ) → Closed (t .entries) (lentBy t pad marks i)
@@ -86,8 +73,8 @@ module _ (t : Tables) (linked : LinkedEntries (t .entries)) (pad : ℕ) (marks :
       later n = rw h (sym (or-false (lentBy t pad marks i n)))
 
   pub begins : before 0 ≡ t
-  unfolding dropEntries lentBy
-  begins = λ j. record { pads = t .pads; entries = map-id (dropEntry (λ n. false)) no-cut (t .entries) j }
+  unfolding lentBy
+  begins = drop-no-entry t
 
   -- ---- a turn, as the code takes it: u is what the image holds, k what it has at the i-th place
   module _ (i : ℕ) (u : Tables) (is : u ≡ before i) (k : Ticket) (here : k ≡ onPad u pad i) where

@@ -1,17 +1,14 @@
-// What was lent away to other pads from the marked tickets of a pad goes from the dock, in the image.
+// A loan on a pad goes, in the image: the ticket with all under it, and in the dock what was lent away from there to other pads.
 ghost use Prim.Native.Nat.{_<_};
 ghost use mathlib.Core.Path.{_≡_};
-ghost use mathlib.Core.Bool.{true, _||_};
+ghost use mathlib.Core.Bool.{true};
 ghost use lib.ListN.{length};
-ghost use Rattle.tables.specs.Names.{eqName};
-ghost use Rattle.tables.specs.Chains.{atOrUnder};
-ghost use Rattle.tables.specs.Change.{dropTickets, dropEntries};
-ghost use Rattle.machine.specs.Recall.{lentAway};
-ghost use Rattle.op_drop_tickets.specs.Linked.{Linked};
+ghost use Rattle.tables.specs.Change.{dropEntries};
 ghost use Rattle.image.specs.Image.{decode, isImage};
 ghost use Rattle.image_write.specs.Shows.{Holds};
 ghost use Rattle.op_drop_entries.specs.Links.{LinkedEntries};
-ghost use Rattle.op_follow.specs.Lent.{isLending, lentBy};
+ghost use Rattle.op_drop_tickets.specs.Linked.{Linked};
+ghost use Rattle.op_follow.specs.Lent.{isLending, lentBy, withoutLoan};
 use tables::Name;
 use tables::Ticket;
 
@@ -33,8 +30,8 @@ fn is_lending(k: Ticket, pad: usize, mark: u8) -> bool
     image_places::wide(target.pad) != pad
 }
 
-// The entries that such recalls name go, one after the other, each with all below it. What is marked stays: its tickets are cleared afterwards.
-pub fn drop_lent(image: &mut [u8], pad: usize, marks: &[u8])
+// The entries that such recalls name go, one after the other, each with all below it. The marked tickets stay readable.
+fn drop_lent(image: &mut [u8], pad: usize, marks: &[u8])
     requires { ⌜ (isImage (now image) ≡ true) × ((pad < 4) × ((length (now marks) ≡ 64) × LinkedEntries (decode (now image) .entries))) ⌝ }
     ensures { λ _. ⌜ Holds (now (image .exit)) (dropEntries (lentBy (decode (now (image .entry))) pad (now (marks .entry)) 64) (decode (now (image .entry)))) ⌝ }
 {
@@ -54,7 +51,7 @@ pub fn drop_lent(image: &mut [u8], pad: usize, marks: &[u8])
 // The tables without `also`, x and all under x, and in the dock without what was lent away from there.
 pub fn drop_followed(image: &mut [u8], also: Name, x: Name)
     requires { ⌜ (isImage (now image) ≡ true) × (Linked (decode (now image)) × (((x .pad < 4) × (also .pad ≡ x .pad)) × LinkedEntries (decode (now image) .entries))) ⌝ }
-    ensures { λ _. ⌜ Holds (now (image .exit)) (dropEntries (lentAway (decode (now (image .entry))) (λ n. eqName n also || atOrUnder (decode (now (image .entry))) x n)) (dropTickets (λ n. eqName n also || atOrUnder (decode (now (image .entry))) x n) (decode (now (image .entry))))) ⌝ }
+    ensures { λ _. ⌜ Holds (now (image .exit)) (withoutLoan (decode (now (image .entry))) also x) ⌝ }
 {
     let mut marks = [0u8; 64];
     op_drop_tickets::mark_under(image, also, x, &mut marks);

@@ -2,19 +2,20 @@
 use Prim.Native.Nat.{ℕ}
 use lib.Dec.{eqb}
 use mathlib.Core.Path.{_≡_, sym, ap, _∙_}
-use mathlib.Core.Bool.{true, _||_}
+use mathlib.Core.Bool.{true}
 use mathlib.Core.List.{List}
 use borrow.Author.Tests.{eq-eqb, ne-eqb}
 use Rattle.tables.specs.declared.{Name.Name, Ticket.Ticket, Tables.Tables}
 use Rattle.tables.specs.Names.{eqName}
-use Rattle.tables.specs.Chains.{atOrUnder, atOrBelow}
+use Rattle.tables.specs.Chains.{atOrBelow}
 use Rattle.tables.specs.Change.{dropTickets, dropEntries}
 use Rattle.machine.specs.declared.Request.{Request}
 use Rattle.machine.specs.State.{accepted, withTables, askedName, asked, stateOf}
 use Rattle.machine.specs.Operation.{recalling, operationOf}
-use Rattle.machine.specs.Recall.{recallRefusal, lentAway, goesWith, recallTables, afterRecall}
+use Rattle.machine.specs.Recall.{recallRefusal, recallTables, afterRecall}
 use Rattle.machine.specs.Step.{ownRefusal, afterOwn, serve}
 use Rattle.op_form.proofs.Numbers.{op-recall}
+use Rattle.op_follow.specs.Lent.{withoutLoan}
 use Rattle.op_refusals.proofs.Results.{recall-not-lost}
 use Rattle.op_outcome.specs.Outcomes.{outcomeOf, plainly}
 use Rattle.op_outcome.specs.Ready.{Asks}
@@ -22,14 +23,13 @@ use Rattle.op_outcome.proofs.Laws.{served-done, served-refused}
 
 -- ---- the tables after, from what the code has removed
 module _ (t : Tables) (r : Request) (k : Ticket) (e : asked t r ≡ k) where
-  near-tables : eqb (asked t r .other .pad) (r .pad) ≡ true → recallTables t r ≡ dropEntries (lentAway t (goesWith t r)) (dropTickets (goesWith t r) t)
+  near-tables : eqb (asked t r .other .pad) (r .pad) ≡ true → recallTables t r ≡ withoutLoan t (askedName r) (asked t r .other)
   unfolding recallTables
   near-tables h = rw h
 
-  pub recalled-near : k .other .pad ≡ r .pad → (own : Name) → own ≡ askedName r
-      → dropEntries (lentAway t (λ n. eqName n own || atOrUnder t (k .other) n)) (dropTickets (λ n. eqName n own || atOrUnder t (k .other) n) t) ≡ recallTables t r
+  pub recalled-near : k .other .pad ≡ r .pad → (own : Name) → own ≡ askedName r → withoutLoan t own (k .other) ≡ recallTables t r
   recalled-near h own f =
-      (λ i. dropEntries (lentAway t (λ n. eqName n (f i) || atOrUnder t (sym e i .other) n)) (dropTickets (λ n. eqName n (f i) || atOrUnder t (sym e i .other) n) t))
+      (λ i. withoutLoan t (f i) (sym e i .other))
       ∙ sym (near-tables (ap (λ (x : Ticket). eqb (x .other .pad) (r .pad)) e ∙ eq-eqb (k .other .pad) (r .pad) h))
 
   -- the recall goes first: the dock is not changed by that

@@ -4,9 +4,9 @@ use mathlib.Core.Bool.{Bool, true, false, not, _&&_}
 use lib.Dec.{eqb}
 use borrow.Author.Tests.{eqb-false, ne-eqb, not-true}
 use Rattle.lists.proofs.Tests.{and-l, and-r, and-intro, not-test}
-use Rattle.tables.specs.declared.{Name.Name, Ticket.Ticket, Tables.Tables}
+use Rattle.tables.specs.declared.{Name.Name, Tables.Tables}
 use Rattle.tables.specs.Kinds.{isRecall}
-use Rattle.tables.specs.Lookup.{Sized, lookup, entryOf}
+use Rattle.tables.specs.Lookup.{lookup, entryOf}
 use Rattle.tables.specs.Chains.{reaches, atOrBelow}
 use Rattle.tables.specs.Order.{underStore}
 use Rattle.tables.proofs.KindLaws.{live-recall}

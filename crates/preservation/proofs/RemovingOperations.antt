@@ -6,17 +6,15 @@ use mathlib.Core.Bool.{Bool, true, false, _||_}
 use lib.Dec.{eqb}
 use borrow.Author.Tests.{eqb-true, eqb-false}
 use Rattle.lists.proofs.Tests.{Case, pass, fail, case, no-true, contradiction, or-right}
-use Rattle.lists.proofs.Everywhere.{map-id}
-use Rattle.lists.proofs.Keyed.{drop-none}
 use Rattle.tables.specs.declared.{Name.Name, Entry.Entry, Tables.Tables}
 use Rattle.tables.specs.Names.{eqName, isNone}
 use Rattle.tables.specs.Lookup.{lastOf, lookup, entryOf}
 use Rattle.tables.specs.Chains.{ownName, parentOf, atOrUnder, chainHead, atOrBelow}
 use Rattle.tables.specs.Order.{underStore}
-use Rattle.tables.specs.Change.{dropTickets, dropEntry, dropEntries}
+use Rattle.tables.specs.Change.{dropTickets}
 use Rattle.tables.proofs.KindLaws.{child-head, recall-head, child-recall, grant-recall, taken-head}
 use Rattle.tables.proofs.NameLaws.{eqName-true, eqName-refl, eqName-false}
-use Rattle.tables.proofs.Keys.{entryKeys, entryLaws}
+use Rattle.tables.proofs.Keys.{drop-no-entry}
 use Rattle.machine.specs.declared.Request.{Request}
 use Rattle.machine.specs.State.{askedName, asked}
 use Rattle.machine.specs.Recall.{lentAway, recallTables}
@@ -195,15 +193,6 @@ module _ (t : Tables) (ok : InOrder t) where
         both n h c = absurd (far-not-taken me recall other n h c)
 
 -- ---- the operations
-no-cut : (e : Entry) → dropEntry (λ n. false) e ≡ e
-unfolding dropEntry
-no-cut e = drop-none entryKeys entryLaws (λ n. false) e (λ l. refl)
-
--- where no entry goes, tickets alone are dropped
-pub drop-no-entry : (t : Tables) → dropEntries (λ n. false) t ≡ t
-unfolding dropEntries
-drop-no-entry t = λ j. record { pads = t .pads; entries = map-id (dropEntry (λ n. false)) no-cut (t .entries) j }
-
 pub give-back-keeps : (t : Tables) (r : Request) → InOrder t → isTaken (asked t r .kind) ≡ true → InOrder (giveBackTables t r)
 unfolding giveBackTables
 give-back-keeps t r ok h = order-removed t ok _ _ (give-back-closure t ok (askedName r) h)

@@ -100,23 +100,6 @@ module _ (parent : Name → Name) where
       ok : (i : ℕ) → good (link r i)
       ok = link-good good climbs r h
 
--- ---- two maps of parents
--- where they agree along the chains of the good names, walks do
-pub reaches-same : (p q : Name → Name) (good : Name → Type 0)
-    → ((n : Name) → good n → isNone (p n) ≡ isNone (q n))
-    → ((n : Name) → good n → isNone (p n) ≡ false → (p n ≡ q n) × good (p n))
-    → (x : Name) (left : ℕ) (n : Name) → good n → reaches left p n x ≡ reaches left q n x
-unfolding reaches
-reaches-same p q good ends links x zero n h = refl
-reaches-same p q good ends links x (suc left) n h = go (case (isNone (p n))) (reaches-same p q good ends links x left (p n))
-  where
-    go : Case (isNone (p n)) → (good (p n) → reaches left p (p n) x ≡ reaches left q (p n) x) → reaches (suc left) p n x ≡ reaches (suc left) q n x
-    go (pass e) ih = reaches-here p x left n e ∙ sym (reaches-here q x left n (sym (ends n h) ∙ e))
-    go (fail e) ih =
-        let l = links n h e in
-        reaches-next p x left n e ∙ ap (λ (b : Bool). eqName n x || b) (ih (l .1) ∙ ap (λ (m : Name). reaches left q m x) (l .0))
-        ∙ sym (reaches-next q x left n (sym (ends n h) ∙ e))
-
 -- the chain in another map that has the same parents along it
 pub ends-kept : {parent parent′ : Name → Name} (good : Name → Type 0) → ((n : Name) → good n → isNone (parent n) ≡ false → good (parent n))
     → ((n : Name) → good n → parent′ n ≡ parent n) → {n : Name} {d : ℕ} → good n → Ends parent n d → Ends parent′ n d

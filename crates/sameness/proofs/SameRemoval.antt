@@ -16,7 +16,7 @@ use Rattle.machine.specs.Recall.{lentAway, goesWith, recallTables}
 use Rattle.machine.specs.GiveBack.{giveBackTables}
 use Rattle.machine.specs.Step.{dropHead}
 use Rattle.preservation.proofs.AfterChange.{removed, lookup-removed, entry-removed, last-removed}
-use Rattle.preservation.proofs.RemovingOperations.{drop-no-entry}
+use Rattle.tables.proofs.Keys.{drop-no-entry}
 use Rattle.sameness.proofs.SaidFacts.{same-kind, same-target}
 use Rattle.preservation.specs.InOrder.{InOrder}
 use Rattle.preservation.proofs.LentAway.{lent-away, lent-from}

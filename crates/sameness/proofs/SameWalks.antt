@@ -5,7 +5,7 @@ use Rattle.tables.specs.declared.{Name.Name, Tables.Tables}
 use Rattle.tables.specs.Lookup.{lookup, entryOf}
 use Rattle.tables.specs.Chains.{reaches, endOf, parentOf, atOrUnder, chainHead, entryParent, atOrBelow}
 use Rattle.tables.specs.Same.{SameTables}
-use Rattle.preservation.proofs.Walks.{reaches-same}
+use Rattle.tables.proofs.Links.{reaches-same}
 use Rattle.sameness.proofs.SaidFacts.{same-parent, same-root, same-entry-parent}
 
 module _ (t u : Tables) (same : SameTables t u) where

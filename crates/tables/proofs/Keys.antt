@@ -2,12 +2,15 @@
 -- are laws of what `lookup` and `entryOf` find.
 use Prim.Native.Nat.{ℕ}
 use mathlib.Core.Path.{_≡_, refl}
+use mathlib.Core.Bool.{false}
 use lib.Dec.{eqb}
 use borrow.Author.Tests.{eqb-true, eq-eqb}
-use Rattle.lists.proofs.Keyed.{Keys, Lawful, byKey}
+use Rattle.lists.proofs.Everywhere.{map-id}
+use Rattle.lists.proofs.Keyed.{Keys, Lawful, byKey, drop-none}
 use Rattle.tables.specs.declared.{Name.Name, Ticket.Ticket, Entry.Entry, Tables.Tables}
 use Rattle.tables.specs.Names.{eqName, free, noEntry}
 use Rattle.tables.specs.Lookup.{ticketsOf, hasNumber, ticketIn, lookup, isNamed, entryIn, entryOf}
+use Rattle.tables.specs.Change.{dropEntry, dropEntries}
 use Rattle.tables.proofs.NameLaws.{eqName-true, eqName-refl}
 use Rattle.tables.specs.Kinds.{isLive}
 
@@ -31,3 +34,12 @@ lookup-keyed t n = refl
 pub entry-keyed : (t : Tables) (n : Name) → entryOf t n ≡ byKey entryKeys (t .entries) n
 unfolding entryIn isNamed
 entry-keyed t n = refl
+
+-- where no entry goes, all stays
+no-cut : (e : Entry) → dropEntry (λ n. false) e ≡ e
+unfolding dropEntry
+no-cut e = drop-none entryKeys entryLaws (λ n. false) e (λ l. refl)
+
+pub drop-no-entry : (t : Tables) → dropEntries (λ n. false) t ≡ t
+unfolding dropEntries
+drop-no-entry t = λ j. record { pads = t .pads; entries = map-id (dropEntry (λ n. false)) no-cut (t .entries) j }

@@ -50,6 +50,13 @@ atDoctor t = withReceived doctor nurse 3 1 1 (give t 1 0 (recallTicket 2 1 docto
 good : Tables
 good = withTaken clerk 4 100 7 (atDoctor (atNurse (atViewer (withTaken capture 0 4 7 emptyTables))))
 
+-- `good` after the dock has forgotten the loans to other pads: nurse and doctor hold stale grants
+abbrev forgotten : Tables → Tables
+forgotten t = dropEntries (λ n. eqName n nurse) (dropEntries (λ n. eqName n doctor) t)
+
+abbrev without : Name → Tables → Tables
+without n t = dropTickets (λ m. eqName m n) t
+
 record Example : Type 0 where
   broken : ℕ
   tables : Tables
@@ -73,8 +80,9 @@ inGoodOrder =
     breaks 0 (swapBoth clerk (head Taken clerk 4 252 7) (entry clerk noName 4 252 7) good) ∷
     -- the viewer lends one sheet on to another program of its pad: a child of a child
     breaks 0 (give (give (swap viewer (child 1 capture 0 2 7 capture) good) 0 1 (recallTicket 2 1 (nameOf 0 2 1))) 0 2 (child 1 viewer 1 1 1 capture)) ∷
-    -- the nurse's entry is gone, and the doctor's below it: both hold stale grants
-    breaks 0 (dropEntries (λ n. eqName n nurse) (dropEntries (λ n. eqName n doctor) good)) ∷
+    -- stale grants, with recalls that name them and without
+    breaks 0 (forgotten good) ∷
+    breaks 0 (without (nameOf 0 0 3) (forgotten good)) ∷
     []
 
 brokenNumbers : List Example
@@ -144,28 +152,28 @@ brokenEntries =
 brokenRecalls : List Example
 brokenRecalls =
     -- the recall's grant is dead, a recall, without the pass on right
-    breaks 6 (swap (nameOf 0 0 3) (recallTicket 3 9 nurse) good) ∷
-    breaks 6 (swap (nameOf 0 0 3) (recallTicket 3 2 nurse) recallLikeGrant) ∷
-    breaks 6
-    (swapBoth nurse (head Received nurse 2 2 1) (entry nurse capture 2 2 1)
-    (dropEntries (λ n. eqName n doctor) good)) ∷
+    breaks 6 (swap (nameOf 0 0 3) (recallTicket 3 9 nurse) (forgotten good)) ∷
+    breaks 6 (swap (nameOf 0 0 3) (recallTicket 3 2 nurse) (forgotten recallLikeGrant)) ∷
+    breaks 6 (swapBoth nurse (head Received nurse 2 2 1) (entry nurse capture 2 2 1) (dropEntries (λ n. eqName n doctor) good)) ∷
     -- the target on its pad is dead, no child, or another grant's child
-    breaks 6 (swap (nameOf 0 0 2) (recallTicket 2 1 (nameOf 0 2 1)) good) ∷
+    breaks 6 (without viewer good) ∷
     breaks 6 (swap viewer (grantTicket Received 1 capture 0 2 (rightsOf 3) viewer) good) ∷
     breaks 6 (swap (nameOf 0 0 2) (recallTicket 2 4 viewer) (withStale (nameOf 0 0 4) 0 4 7 good)) ∷
     -- the target on another pad has number 0, a number above the last, an impossible pad, an impossible program
-    breaks 6 (swap (nameOf 1 0 2) (recallTicket 2 1 (nameOf 2 0 0)) good) ∷
-    breaks 6 (swap (nameOf 1 0 2) (recallTicket 2 1 (nameOf 2 0 2)) good) ∷
-    breaks 6 (swap (nameOf 1 0 2) (recallTicket 2 1 (nameOf 4 0 1)) good) ∷
-    breaks 6 (swap (nameOf 1 0 2) (recallTicket 2 1 (nameOf 2 8 1)) good) ∷
-    -- the target is in the dock, under another entry, under the store, with a sheet that the recall's grant lacks
-    breaks 6 (swap (nameOf 0 0 3) (recallTicket 3 1 doctor) (dropTickets (λ n. eqName n (nameOf 1 0 2)) good)) ∷
-    breaks 6 (swap (nameOf 0 0 3) (recallTicket 3 1 clerk) good) ∷
-    breaks 6
-    (give (dropTickets (λ n. eqName n (nameOf 0 0 3)) (swap viewer (child 1 capture 0 3 7 capture) good)) 0 1 (recallTicket 2 1 nurse)) ∷
-    -- two recalls of one target; a child that no recall names
+    breaks 6 (swap (nameOf 1 0 2) (recallTicket 2 1 (nameOf 2 0 0)) (forgotten good)) ∷
+    breaks 6 (swap (nameOf 1 0 2) (recallTicket 2 1 (nameOf 2 0 2)) (forgotten good)) ∷
+    breaks 6 (swap (nameOf 1 0 2) (recallTicket 2 1 (nameOf 4 0 1)) (forgotten good)) ∷
+    breaks 6 (swap (nameOf 1 0 2) (recallTicket 2 1 (nameOf 2 8 1)) (forgotten good)) ∷
+    -- it is a live child: the viewer, whose own recall is gone
+    breaks 6 (give (without (nameOf 0 0 2) good) 3 0 (recallTicket 2 1 viewer)) ∷
+    -- it is in the dock under another entry, under the store, with a sheet that the recall's grant lacks
+    breaks 6 (give (without (nameOf 1 0 2) good) 0 0 (recallTicket 4 1 doctor)) ∷
+    breaks 6 (give good 0 0 (recallTicket 4 1 clerk)) ∷
+    breaks 6 (give (without (nameOf 0 0 3) (swap viewer (child 1 capture 0 3 7 capture) good)) 0 1 (recallTicket 2 1 nurse)) ∷
+    -- two recalls of one target; a child that no recall names; an entry below another that no recall names
     breaks 6 (give good 0 0 (recallTicket 4 1 nurse)) ∷
-    breaks 6 (dropTickets (λ n. eqName n (nameOf 0 0 2)) good) ∷
+    breaks 6 (without (nameOf 0 0 2) good) ∷
+    breaks 6 (without (nameOf 1 0 2) good) ∷
     []
 
 -- each example breaks first the rule that stands beside it

@@ -1,5 +1,5 @@
 -- Marks, then entries, then tickets.
-use mathlib.Core.Path.{refl, sym, _∙_}
+use mathlib.Core.Path.{refl}
 use borrow.Author.Needs.{needs}
 use Rattle.image.proofs.RoundTrip.{image-whole}
 use Rattle.op_follow.proofs.ByNames.{followed}

@@ -1,17 +1,14 @@
 -- The first i places have had their turn.
-use Prim.Native.Nat.{ℕ, _+_, _-_, _*_, _≤_, _<_}
+use Prim.Native.Nat.{ℕ, _+_, _-_, _*_, _≤_}
 use native.Mathlib.Omega.{arith}
-use mathlib.Core.Path.{_≡_, refl, sym, ap, subst, _∙_}
-use mathlib.Core.Bool.{true, false}
+use mathlib.Core.Path.{_≡_, refl, sym, ap, _∙_}
 use borrow.Author.Needs.{needs}
-use Rattle.tables.specs.declared.Tables.{Tables}
 use Rattle.tables.specs.Change.{dropEntries}
-use Rattle.image.specs.Image.{decode, isImage}
+use Rattle.image.specs.Image.{decode}
 use Rattle.image.proofs.RoundTrip.{image-whole}
 use Rattle.image_write.specs.Shows.{Holds}
 use Rattle.image_find.proofs.Laws.{flattened}
-use Rattle.image_pads.specs.Places.{onPad}
-use Rattle.op_follow.specs.Lent.{isLending, lentBy}
+use Rattle.op_follow.specs.Lent.{lentBy}
 use Rattle.op_follow.proofs.Turns.{begins, turned, passed, linked-now}
 use Rattle.op_follow.proofs.drop_lent.Statement.{statement}
 use Rattle.op_follow.proofs.drop_lent.Tie as tie

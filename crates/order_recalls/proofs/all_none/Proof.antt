@@ -1,7 +1,3 @@
-use mathlib.Core.Path.{_≡_, sym, ap, _∙_}
-use mathlib.Core.Bool.{Bool, _&&_}
-use lib.Dec.{eqb}
-use borrow.Author.Tests.{ne-eqb, eq-eqb}
 use Rattle.order_recalls.proofs.AllNone.{first-some, second-some, third}
 use Rattle.order_recalls.proofs.all_none.Statement.{statement}
 use Rattle.order_recalls.proofs.all_none.Tie as tie
