@@ -49,7 +49,7 @@ extern "C" {
 #define DOCK_TRACE_ROOM 983074 /* bytes that every trace fits into */
 
 /* The version that this header belongs to: major * 10000 + minor * 100 + patch. */
-#define DOCK_VERSION 10000
+#define DOCK_VERSION 20000
 
 /*
  * Bytes of stack that a call may take, its own frame included; dock_trace has its own number, because
@@ -70,7 +70,7 @@ extern "C" {
 enum dock_operation {
     DOCK_TAKE = 1,      /* count, rights: sheets from the store, as zeros */
     DOCK_PASS = 2,      /* ticket, topad, toprogram, first, count, rights: lends a part */
-    DOCK_RECALL = 3,    /* ticket (a recall): takes back what was lent */
+    DOCK_RECALL = 3,    /* ticket (a recall): takes back what was lent, with all that was lent on from it */
     DOCK_GIVE_BACK = 4, /* ticket (a taken grant): the sheets become zeros and are free */
     DOCK_READ = 5,      /* ticket, first: copies the sheet into the sheet buffer */
     DOCK_WRITE = 6      /* ticket, first: copies the sheet buffer into the sheet */
@@ -196,10 +196,8 @@ uint16_t dock_empty(uint8_t *tables, size_t tables_length, uint8_t *store, size_
  * 0 where there is none. The result is also what the function returns.
  * DOCK_LENGTH or DOCK_NOT_IN_ORDER: nothing is written, nor is the answer.
  *
- * From an emptied dock every request leaves tables in order, and DOCK_NOT_IN_ORDER never comes. Of
- * tables that a host made itself, though they are in order, a recall can leave some that are not,
- * since T6 as written lets a recall of one pad name a live child of another pad. Every later call
- * then answers DOCK_NOT_IN_ORDER.
+ * Every request leaves tables in order that were in order before it, so that from an emptied dock
+ * DOCK_NOT_IN_ORDER never comes.
  */
 uint16_t dock_step(uint8_t *tables, size_t tables_length, uint8_t *store, size_t store_length,
                    uint8_t *sheet, size_t sheet_length,
@@ -209,9 +207,8 @@ uint16_t dock_step(uint8_t *tables, size_t tables_length, uint8_t *store, size_t
 /*
  * Serves n requests, one after the other, each as dock_step would. Lengths: DOCK_TABLES, DOCK_STORE,
  * DOCK_SHEET * n, DOCK_REQUEST * n, DOCK_ANSWER * n, for one n, which may be 0.
- * DOCK_LENGTH, or DOCK_NOT_IN_ORDER at the start: nothing is written. Otherwise DOCK_ACCEPTED: every
- * request has its answer, in which it may have been refused. Where tables that a host made fall out
- * of order midway, each request after that has the answer 14 0 0 and changes nothing.
+ * DOCK_LENGTH or DOCK_NOT_IN_ORDER: nothing is written. Otherwise DOCK_ACCEPTED: every request has its
+ * answer, in which it may have been refused, with 1 to 12.
  */
 uint16_t dock_serve(uint8_t *tables, size_t tables_length, uint8_t *store, size_t store_length,
                     uint8_t *sheets, size_t sheets_length,
@@ -227,7 +224,14 @@ uint16_t dock_serve(uint8_t *tables, size_t tables_length, uint8_t *store, size_
 uint16_t dock_check(const uint8_t *tables, size_t tables_length,
                     uint16_t pad, uint16_t program, uint16_t number, uint16_t sheet, uint16_t right);
 
-/* DOCK_LENGTH, DOCK_NOT_IN_ORDER, or DOCK_ACCEPTED for tables in order. Changes nothing. */
+/*
+ * DOCK_LENGTH, DOCK_NOT_IN_ORDER, or DOCK_ACCEPTED for tables in order. Changes nothing.
+ *
+ * A host that kept tables of version 1 asks this once before it goes on with them: there a recall on a
+ * pad left the loans that were made from it to other pads, and such tables are not in order any more.
+ * On DOCK_NOT_IN_ORDER the ways out are to give all takes back with the old library and then go on, or
+ * to empty the dock. Tables that were never left so are in order as before.
+ */
 uint16_t dock_in_order(const uint8_t *tables, size_t tables_length);
 
 /*
@@ -239,8 +243,7 @@ uint16_t dock_in_order(const uint8_t *tables, size_t tables_length);
  *     line result ticket recipient byte
  * and each line behind it tells of one request: the line's number, from 1; its answer; the first byte
  * of an accepted read, or 0. A line of another form has the result 15 and changes nothing. An input
- * with other names, or above DOCK_TRACE_INPUT bytes, has the one line 0 15 0 0 0. Where tables that a
- * host made fall out of order midway, each request after that has the answer 14 0 0.
+ * with other names, or above DOCK_TRACE_INPUT bytes, has the one line 0 15 0 0 0.
  *
  * Lengths: DOCK_TABLES, DOCK_STORE; input and output may have any. The trace goes to the front of the
  * output and its length to *length. DOCK_LENGTH, DOCK_NOT_IN_ORDER, or DOCK_TOO_SHORT where the output is

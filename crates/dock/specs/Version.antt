@@ -1,5 +1,5 @@
 use Prim.Native.Nat.{ℕ}
 
--- 1.0.0, as major * 10000 + minor * 100 + patch
+-- 2.0.0, as major * 10000 + minor * 100 + patch
 abbrev pub version : ℕ
-version = 10000
+version = 20000

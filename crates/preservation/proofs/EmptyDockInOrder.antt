@@ -1,4 +1,4 @@
--- The emptied dock has the invariant: no name finds a ticket or an entry there, so that every rule holds of nothing. And emptying leaves
+-- The emptied dock is in order: no name finds a ticket or an entry there, so that every rule holds of nothing. And emptying leaves
 -- that dock, or with another length 13.
 use Prim.Native.Nat.{ℕ, _<_}
 use mathlib.Core.Path.{_≡_, refl, sym, ap, _∙_, subst}

@@ -1,4 +1,4 @@
--- Every operation keeps the invariant, and so does the drop on 12: tables that have it have it after any request. By the refusal's number:
+-- Every operation keeps the order, and so does the drop on 12: tables in order are in order after any request. By the refusal's number:
 -- 0 is the operation, 12 the drop, and any other changes nothing.
 use Prim.Native.Nat.{_≤_}
 use mathlib.Core.Path.{_≡_}

@@ -1,4 +1,4 @@
--- Pass keeps the invariant, on the same pad and to another. It is an instance of the insertion theorem with two new names: x, a recall of the
+-- Pass keeps the order, on the same pad and to another. It is an instance of the insertion theorem with two new names: x, a recall of the
 -- asker's, and y, a child or a received grant of the recipient's.
 use Prim.Native.Nat.{ℕ, suc, _+_, _≤_}
 use native.Mathlib.Omega.{arith}

@@ -27,7 +27,8 @@ entry-survives true d e l = no-true (ap (λ (x : Entry). x .live) (sym e) ∙ l)
 
 -- ---- what may go together
 -- `gone` picks tickets and `cut` entries by name. The set is closed: what is under a ticket that goes goes too; a child goes exactly
--- with its recall; the entry that a recall of another pad's ticket names is cut where the recall goes; the entry of a grant that goes is cut; what is below an entry that is cut is cut; a taken grant goes with its entry.
+-- with its recall; where a recall of another pad's ticket goes, the entry that it names is cut; the entry of a grant that goes is cut; what
+-- is below an entry that is cut is cut; a taken grant goes with its entry.
 pub record Closure (tickets : Name → Ticket) (entries : Name → Entry) (gone cut : Name → Bool) : Type 0 where
   pub down : (n : Name) → isNone (parentOf tickets n) ≡ false → gone (parentOf tickets n) ≡ true → gone n ≡ true
   pub pair : (r : Name) → isRecall (tickets r .kind) ≡ true → tickets r .other .pad ≡ r .pad → gone (tickets r .other) ≡ gone r

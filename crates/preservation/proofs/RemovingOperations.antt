@@ -1,4 +1,4 @@
--- The operations that remove keep the invariant: recall (on the same pad and across pads), give back, and the drop on 12. Each is an
+-- The operations that remove keep the order: recall (on the same pad and across pads), give back, and the drop on 12. Each is an
 -- instance of the removal theorem; what is shown is that what goes is closed.
 use Prim.Native.Nat.{ℕ}
 use mathlib.Core.Path.{_≡_, refl, sym, ap, _∙_, subst, fun-ext}

@@ -1,4 +1,4 @@
--- What an accepted take does to tables in order (`TakeEffect`), and that it keeps the invariant. It is an instance of the insertion theorem:
+-- What an accepted take does to tables in order (`TakeEffect`), and that it keeps the order. It is an instance of the insertion theorem:
 -- one new name, with a taken grant and an entry under the store whose sheets lie outside all entries.
 use Prim.Native.Nat.{ℕ, suc, _≤_}
 use native.Mathlib.Omega.{arith}

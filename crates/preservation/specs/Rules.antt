@@ -119,6 +119,6 @@ pub record Rules (tickets : Name → Ticket) (entries : Name → Entry) (lasts :
       → FarOk (tickets (ownName n (tickets n))) (entries (tickets n .other))
   pub once : (n m : Name) → isRecall (tickets n .kind) ≡ true → isRecall (tickets m .kind) ≡ true → tickets n .other ≡ tickets m .other → n ≡ m
   pub recalled : (n : Name) → isChild (tickets n .kind) ≡ true → Recalled tickets n
-  -- T6, by 02, 1/13
+  -- 02, 1/13: "no recall names a live child of another pad", "every entry below another has exactly one live recall naming it"
   pub noFar : (n : Name) → isRecall (tickets n .kind) ≡ true → (tickets n .other .pad ≡ n .pad → ⊥) → isChild (tickets (tickets n .other) .kind) ≡ false
   pub lent : (n : Name) → entries n .live ≡ true → underStore (entries n) ≡ false → Recalled tickets n

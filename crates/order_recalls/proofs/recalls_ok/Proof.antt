@@ -1,4 +1,5 @@
--- `recalls_ok`: where nothing is listed there is nothing to test. Else the first part of T6 that fails settles T6; where none fails, the marks do.
+-- `recalls_ok`: where nothing is listed there is nothing to test. Else the first part of T6 that fails settles T6; where none fails, the
+-- marks do.
 use native.Mathlib.Omega.{arith}
 use mathlib.Core.Path.{sym, subst, _∙_}
 use borrow.Author.Needs.{needs}
