@@ -1,5 +1,6 @@
-//! Document 01 in plain Rust, as docs/DECISIONS.md reads it: a second implementation that the proved
-//! library is compared with and timed against. It shares no code and no layout with the library.
+//! Document 01 in plain Rust, with document 02's first request, as docs/DECISIONS.md reads them: a second
+//! implementation that the proved library is compared with and timed against. It shares no code and no layout
+//! with the library.
 //!
 //! A program's tickets and the dock's entries made for it stand in two tables of eight. Tables in order
 //! never need more, since every entry names a live ticket of its program (T5). Entries that don't fit, or
@@ -168,13 +169,17 @@ pub struct Answer {
 /// The new numbers of an accepted request, or its refusal.
 type Outcome = Result<(u16, u16), Refusal>;
 
+/// Each program's tickets, by number.
+type Tickets = [Eight<Ticket>; SEATS];
+/// The entries named after each program's tickets, by ticket number.
+type Entries = [Eight<Entry>; SEATS];
+
 /// All tables: last numbers, tickets, entries.
 #[derive(Clone, Debug)]
 pub struct State {
     last: [u16; SEATS],
-    tickets: [Eight<Ticket>; SEATS],
-    /// The entries named after each program's tickets, by ticket number.
-    entries: [Eight<Entry>; SEATS],
+    tickets: Tickets,
+    entries: Entries,
     /// Entries with an impossible name, or more than eight of one program. Only damaged tables have any.
     strays: Vec<(Name, Entry)>,
 }
@@ -341,11 +346,16 @@ impl State {
         let Ticket::Recall { target, .. } = *self.tickets[seat].item(place) else {
             return Err(Refusal::WrongKind);
         };
-        self.tickets[seat].remove(place);
-        if target.pad as usize == seat / PROGRAMS {
-            self.remove_ticket(target);
+        let (pad, State { tickets, entries, .. }) = ((seat / PROGRAMS) as u16, self);
+        tickets[seat].remove(place);
+        if target.pad == pad {
+            // The dock follows: "the target entry of each other-pad recall among the tickets it removes".
+            remove_ticket(tickets, target, |gone| match *gone {
+                Ticket::Recall { target, .. } if target.pad != pad => remove_entry(entries, target),
+                _ => {}
+            });
         } else {
-            self.remove_entry(target);
+            remove_entry(entries, target);
         }
         Ok((0, 0))
     }
@@ -353,9 +363,9 @@ impl State {
     fn give_back(&mut self, store: &mut [u8; STORE], seat: usize, number: u16) -> Outcome {
         match *self.tickets[seat].get(number).ok_or(Refusal::NoTicket)? {
             Ticket::Grant(Grant { source: Source::Taken, sheets, dock, .. }) => {
-                self.remove_entry(dock);
+                remove_entry(&mut self.entries, dock);
                 store[bytes(sheets)].fill(0);
-                self.remove_ticket(dock);
+                remove_ticket(&mut self.tickets, dock, |_| {});
                 Ok((0, 0))
             }
             _ => Err(Refusal::WrongKind),
@@ -417,65 +427,66 @@ impl State {
     /// Refusal 12. The head of the chain is found at once: along a chain the dock names agree (T3), and the
     /// head's is its own (T4).
     fn drop_stale(&mut self, dock: Name) -> Refusal {
-        self.remove_ticket(dock);
+        remove_ticket(&mut self.tickets, dock, |_| {});
         Refusal::NoEntry
     }
+}
 
-    /// Removes a ticket and all under it on its pad.
-    fn remove_ticket(&mut self, name: Name) {
-        let Some(seat) = name.seat() else { return };
-        let Some(place) = self.tickets[seat].find(name.number) else { return };
-        let pad = seat / PROGRAMS * PROGRAMS..(seat / PROGRAMS + 1) * PROGRAMS;
-        // Removed grants whose own tickets are still to be removed. Without the right to pass on a grant
-        // has nothing under it (T3, T6).
-        let mut waiting = Stack::new();
-        let passes_on = |ticket: &Ticket| matches!(ticket, Ticket::Grant(g) if g.rights & PASS_ON != 0);
-        self.tickets[seat].remove(place);
-        if passes_on(self.tickets[seat].item(place)) {
-            waiting.push(seat, place);
-        }
-        while let Some((above, place)) = waiting.pop() {
-            let name = Name::new(above, self.tickets[above].number(place));
-            for seat in pad.clone() {
-                for place in self.tickets[seat].places() {
-                    let ticket = self.tickets[seat].item(place);
-                    let under = match ticket {
-                        Ticket::Recall { own, .. } => seat == above && *own == name.number,
-                        Ticket::Grant(Grant { source: Source::Child { parent }, .. }) => *parent == name,
-                        Ticket::Grant(_) => false,
-                    };
-                    if under {
-                        if passes_on(ticket) {
-                            waiting.push(seat, place);
-                        }
-                        self.tickets[seat].remove(place);
+/// Removes a ticket and all under it on its pad; `gone` hears of each that was under it.
+fn remove_ticket(tickets: &mut Tickets, name: Name, mut gone: impl FnMut(&Ticket)) {
+    let Some(seat) = name.seat() else { return };
+    let Some(place) = tickets[seat].find(name.number) else { return };
+    let pad = seat / PROGRAMS * PROGRAMS..(seat / PROGRAMS + 1) * PROGRAMS;
+    // Removed grants whose own tickets are still to be removed. Without the right to pass on a grant has
+    // nothing under it (T3, T6).
+    let mut waiting = Stack::new();
+    let passes_on = |ticket: &Ticket| matches!(ticket, Ticket::Grant(g) if g.rights & PASS_ON != 0);
+    tickets[seat].remove(place);
+    if passes_on(tickets[seat].item(place)) {
+        waiting.push(seat, place);
+    }
+    while let Some((above, place)) = waiting.pop() {
+        let name = Name::new(above, tickets[above].number(place));
+        for seat in pad.clone() {
+            for place in tickets[seat].places() {
+                let ticket = tickets[seat].item(place);
+                let under = match ticket {
+                    Ticket::Recall { own, .. } => seat == above && *own == name.number,
+                    Ticket::Grant(Grant { source: Source::Child { parent }, .. }) => *parent == name,
+                    Ticket::Grant(_) => false,
+                };
+                if under {
+                    if passes_on(ticket) {
+                        waiting.push(seat, place);
                     }
+                    gone(ticket);
+                    tickets[seat].remove(place);
                 }
             }
         }
     }
+}
 
-    /// Removes an entry, if it is there, and all below it.
-    fn remove_entry(&mut self, name: Name) {
-        let Some(seat) = name.seat() else { return };
-        let Some(place) = self.entries[seat].find(name.number) else { return };
-        // As for tickets: without the right to pass on nothing is below (T5).
-        let mut waiting = Stack::new();
-        self.entries[seat].remove(place);
-        if self.entries[seat].item(place).rights & PASS_ON != 0 {
-            waiting.push(seat, place);
-        }
-        while let Some((above, place)) = waiting.pop() {
-            let name = Some(Name::new(above, self.entries[above].number(place)));
-            for seat in 0..SEATS {
-                for place in self.entries[seat].places() {
-                    let entry = self.entries[seat].item(place);
-                    if entry.parent == name {
-                        if entry.rights & PASS_ON != 0 {
-                            waiting.push(seat, place);
-                        }
-                        self.entries[seat].remove(place);
+/// Removes an entry, if it is there, and all below it.
+fn remove_entry(entries: &mut Entries, name: Name) {
+    let Some(seat) = name.seat() else { return };
+    let Some(place) = entries[seat].find(name.number) else { return };
+    // As for tickets: without the right to pass on nothing is below (T5).
+    let mut waiting = Stack::new();
+    entries[seat].remove(place);
+    if entries[seat].item(place).rights & PASS_ON != 0 {
+        waiting.push(seat, place);
+    }
+    while let Some((above, place)) = waiting.pop() {
+        let name = Some(Name::new(above, entries[above].number(place)));
+        for (seat, entries) in entries.iter_mut().enumerate() {
+            for place in entries.places() {
+                let entry = entries.item(place);
+                if entry.parent == name {
+                    if entry.rights & PASS_ON != 0 {
+                        waiting.push(seat, place);
                     }
+                    entries.remove(place);
                 }
             }
         }

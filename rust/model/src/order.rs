@@ -7,16 +7,24 @@ use crate::{within, Entry, Grant, Name, Source, State, Ticket, PADS, PASS_ON, PR
 /// No parent, where the parents of places are kept as places.
 const NONE: u16 = u16::MAX;
 
+/// The tickets that somebody lent, as bits of their places: T6 has each of them recalled.
+struct Lent {
+    children: [u8; SEATS],
+    /// The grants whose entry is below another.
+    below: [u8; SEATS],
+}
+
 impl State {
     /// Whether the tables are in order.
     pub fn in_order(&self) -> bool {
+        let mut lent = Lent { children: [0; SEATS], below: [0; SEATS] };
         // A stray entry has an impossible name, or is one of nine of a program, and then one of them names
         // no live ticket or two have one name (T5).
         self.strays.is_empty()
             && (0..SEATS).all(|seat| self.numbers_in_order(seat))
-            && (0..PADS).all(|pad| self.grants_in_order(pad))
-            && self.entries_in_order()
-            && self.recalls_in_order()
+            && (0..PADS).all(|pad| self.grants_in_order(pad, &mut lent.children))
+            && self.entries_in_order(&mut lent.below)
+            && self.recalls_in_order(&lent)
     }
 
     /// T1.
@@ -29,9 +37,9 @@ impl State {
     }
 
     /// T2, T3 and T4, and of T5 that every taken grant has its entry.
-    fn grants_in_order(&self, pad: usize) -> bool {
+    fn grants_in_order(&self, pad: usize, children: &mut [u8; SEATS]) -> bool {
         let mut parents = [NONE; PROGRAMS * 8];
-        let mut children = false;
+        let mut some = false;
         for program in 0..PROGRAMS {
             let seat = pad * PROGRAMS + program;
             let tickets = &self.tickets[seat];
@@ -48,13 +56,14 @@ impl State {
                     Source::Child { parent } if parent.pad == own.pad && parent.program != own.program => {
                         let Some(at) = self.parent_of(grant, parent) else { return false };
                         parents[program * 8 + place] = at;
-                        children = true;
+                        children[seat] |= 1 << place;
+                        some = true;
                     }
                     _ => return false,
                 }
             }
         }
-        !children || all_end(&parents)
+        !some || all_end(&parents)
     }
 
     /// The place on its pad of a child's parent, where that is a grant as T3 asks.
@@ -70,15 +79,16 @@ impl State {
     }
 
     /// T5, but for its last sentence.
-    fn entries_in_order(&self) -> bool {
+    fn entries_in_order(&self, below: &mut [u8; SEATS]) -> bool {
         let mut parents = [NONE; SEATS * 8];
         let mut under_store = SheetSet::default();
-        let mut received = false;
+        let mut some = false;
         for seat in 0..SEATS {
             let entries = &self.entries[seat];
             for place in entries.places() {
                 let (number, entry) = (entries.number(place), entries.item(place));
-                let Some(Ticket::Grant(grant)) = self.tickets[seat].get(number) else { return false };
+                let Some(own) = self.tickets[seat].find(number) else { return false };
+                let Ticket::Grant(grant) = self.tickets[seat].item(own) else { return false };
                 if entries.find(number) != Some(place)
                     || grant.sheets != entry.sheets
                     || grant.rights != entry.rights
@@ -91,13 +101,14 @@ impl State {
                     (Some(parent), Source::Received) => {
                         let Some(at) = self.parent_entry(entry, parent) else { return false };
                         parents[seat * 8 + place] = at;
-                        received = true;
+                        below[seat] |= 1 << own;
+                        some = true;
                     }
                     _ => return false,
                 }
             }
         }
-        !received || all_end(&parents)
+        !some || all_end(&parents)
     }
 
     /// The place of an entry's parent, where that is an entry as T5 asks.
@@ -112,7 +123,7 @@ impl State {
     }
 
     /// T6.
-    fn recalls_in_order(&self) -> bool {
+    fn recalls_in_order(&self, lent: &Lent) -> bool {
         // The targets so far: live tickets as bits of their places, dead ones in a list.
         let mut named = [0u8; SEATS];
         let mut dead = [0u32; SEATS * 8];
@@ -130,8 +141,10 @@ impl State {
                 let allowed = if to / PROGRAMS == seat / PROGRAMS {
                     found.is_some_and(|at| child_of(self.tickets[to].item(at)) == Some(Name::new(seat, own)))
                 } else {
+                    // "No recall names a live child of another pad."
                     target.number >= 1
                         && target.number <= self.last[to]
+                        && found.is_none_or(|at| lent.children[to] & (1 << at) == 0)
                         && self.entry(target).is_none_or(|entry| {
                             entry.parent == Some(grant.dock)
                                 && grant.sheets.contains(entry.sheets)
@@ -153,13 +166,10 @@ impl State {
         }
         let dead = &mut dead[..dead_count];
         dead.sort_unstable();
+        // "Every child has one", and "every entry below another has exactly one live recall naming it": that
+        // no target has two was seen to above.
         dead.windows(2).all(|pair| pair[0] != pair[1])
-            && (0..SEATS).all(|seat| {
-                let tickets = &self.tickets[seat];
-                tickets
-                    .places()
-                    .all(|at| named[seat] & (1 << at) != 0 || child_of(tickets.item(at)).is_none())
-            })
+            && (0..SEATS).all(|seat| (lent.children[seat] | lent.below[seat]) & !named[seat] == 0)
     }
 }
 
