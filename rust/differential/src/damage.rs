@@ -35,6 +35,20 @@ pub fn rearrange(image: &[u8], rng: &mut Rng) -> Vec<u8> {
     to_bytes(&host.words)
 }
 
+/// A recall names a child of another pad; nothing else is wrong where the image was in order.
+pub fn far_child(image: &[u8], rng: &mut Rng) -> Option<Vec<u8>> {
+    let mut host = Host { words: to_words(image), rng };
+    host.recall_from_abroad()?;
+    Some(to_bytes(&host.words))
+}
+
+/// An entry below another has no recall; nothing else is wrong where the image was in order.
+pub fn unrecalled(image: &[u8], rng: &mut Rng) -> Option<Vec<u8>> {
+    let mut host = Host { words: to_words(image), rng };
+    host.free_recall(true)?;
+    Some(to_bytes(&host.words))
+}
+
 /// Last numbers near the end, or at it.
 pub fn spend_numbers(image: &[u8], rng: &mut Rng) -> Vec<u8> {
     let mut words = to_words(image);
@@ -57,15 +71,9 @@ impl Host<'_> {
                 self.words[at] = self.words[at].saturating_add([1, 2, 60_000][self.rng.below(3)]);
             }
             3 => self.move_received()?,
-            4 => {
-                // The recall of a loan to another pad may be missing.
-                let far = self.tickets(&[RECALL], |host, seat, at| host.words[at + OTHER] != seat as u16 / 8);
-                let (_, at) = self.rng.pick(&far)?;
-                self.words[at + KIND] = FREE;
-            }
-            _ => {
-                self.recall_from_abroad()?;
-            }
+            4 => self.free_recall(false)?,
+            5 => self.move_far_recall()?,
+            _ => self.recall_of_nothing(PASS_ON)?,
         }
         Some(())
     }
@@ -75,7 +83,7 @@ impl Host<'_> {
         let (seat, at) = self.pick(&ANY)?;
         let (_, other) = self.pick(&ANY)?;
         let entry = self.rng.pick(&self.entries(1))?;
-        match self.rng.below(29) {
+        match self.rng.below(32) {
             0 | 1 => {
                 let field = self.rng.below(TICKET);
                 self.change(at + field, other + field);
@@ -93,7 +101,7 @@ impl Host<'_> {
                 let place = self.free_place(to)?;
                 self.words.copy_within(at..at + TICKET, place);
                 if !self.rng.once_in(3) {
-                    self.words[place + NUMBER] = self.fresh(to);
+                    self.words[place + NUMBER] = self.fresh(to)?;
                 }
             }
             8 => {
@@ -119,7 +127,7 @@ impl Host<'_> {
             15 => self.ring_of_children()?,
             16 => self.ring_of_entries(entry)?,
             17 | 18 => self.narrow_a_lender()?,
-            19 => self.orphan()?,
+            19 => self.adopt()?,
             20 => self.entry_of_a_child()?,
             21 => {
                 // An entry moves up to its parent's parent.
@@ -141,6 +149,9 @@ impl Host<'_> {
                 let (_, child) = self.pick(&[CHILD])?;
                 self.words[child + RIGHTS] = 1 + self.rng.below(7) as u16;
             }
+            27 => self.recall_from_abroad()?,
+            28 => self.free_recall(true)?,
+            29 => self.recall_of_nothing(0)?,
             _ => {
                 // Another number, for this ticket or for what a recall stands under.
                 let mate = self.rng.pick(&self.of_program(seat))?;
@@ -197,16 +208,59 @@ impl Host<'_> {
         }
     }
 
-    /// A child's recall goes to another pad, under some grant there that may pass on, which the rules
-    /// allow. Returns the child.
-    fn recall_from_abroad(&mut self) -> Option<(usize, usize)> {
+    /// A child's recall goes to another pad, under some grant there that may pass on.
+    fn recall_from_abroad(&mut self) -> Option<()> {
         let (seat, child) = self.pick(&[CHILD])?;
         let lenders = self.tickets(&GRANTS, |host, other, at| {
             other / 8 != seat / 8 && host.words[at + RIGHTS] & PASS_ON != 0
         });
         let (abroad, grant) = self.rng.pick(&lenders)?;
-        self.move_recall(Name::new(seat, self.words[child + NUMBER]), abroad, self.words[grant + NUMBER])?;
-        Some((seat, child))
+        self.move_recall(Name::new(seat, self.words[child + NUMBER]), abroad, self.words[grant + NUMBER])
+    }
+
+    /// The recall of a loan to another pad is missing, which is in order where the loan has no entry.
+    fn free_recall(&mut self, entry: bool) -> Option<()> {
+        let far = self.tickets(&[RECALL], |host, seat, at| {
+            let target = name(&host.words, at + OTHER);
+            target.pad != seat as u16 / 8 && host.entry(target).is_some() == entry
+        });
+        let (_, at) = self.rng.pick(&far)?;
+        self.words[at + KIND] = FREE;
+        Some(())
+    }
+
+    /// The recall of a loan to another pad may stand under any grant that has the lender's dock name and what was
+    /// lent.
+    fn move_far_recall(&mut self) -> Option<()> {
+        let far = |host: &Self, seat, at| host.words[at + OTHER] != seat as u16 / 8;
+        let (seat, at) = self.rng.pick(&self.tickets(&[RECALL], far))?;
+        let dock = self.ticket(Name::new(seat, self.words[at + OWN]))? + DOCK;
+        let lenders = self.tickets(&GRANTS, |host, _, grant| {
+            host.words[grant + DOCK..][..3] == host.words[dock..][..3]
+                && host.words[grant + RIGHTS] & PASS_ON != 0
+        });
+        let (to, grant) = self.rng.pick(&lenders)?;
+        self.move_recall(name(&self.words, at + OTHER), to, self.words[grant + NUMBER])
+    }
+
+    /// A recall, under a grant with these rights, of a number of another pad that has no entry: dead, a stale
+    /// received grant, even a recall.
+    fn recall_of_nothing(&mut self, rights: u16) -> Option<()> {
+        let lenders = self.tickets(&GRANTS, |host, _, at| host.words[at + RIGHTS] & rights == rights);
+        let (seat, grant) = self.rng.pick(&lenders)?;
+        let to = self.off_pad(seat);
+        let last = self.words[last_at(to)].max(1);
+        let target = Name::new(to, 1 + self.rng.below(last as usize) as u16);
+        let child = self.ticket(target).is_some_and(|at| self.words[at + KIND] == CHILD);
+        if child || self.entry(target).is_some() || !self.recalls_of(target).is_empty() {
+            return None;
+        }
+        let (own, place) = (self.words[grant + NUMBER], self.free_place(seat)?);
+        self.words[place + NUMBER] = self.fresh(seat)?;
+        self.words[place + OWN] = own;
+        self.words[place + KIND] = RECALL;
+        set_name(&mut self.words, place + OTHER, target);
+        Some(())
     }
 
     /// Puts the recall that names `target` into another program, under its grant `own`.
@@ -220,22 +274,40 @@ impl Host<'_> {
     /// Moves a ticket to another program, under a new number there.
     fn move_ticket(&mut self, at: usize, seat: usize) -> Option<usize> {
         let place = self.free_place(seat)?;
+        let number = self.fresh(seat)?;
         self.words.copy_within(at..at + TICKET, place);
         self.words[at + KIND] = FREE;
-        self.words[place + NUMBER] = self.fresh(seat);
+        self.words[place + NUMBER] = number;
         Some(place)
     }
 
-    /// A received grant goes to another program, with its entry.
+    /// A received grant that lent nothing goes to another program, off its lender's pad, with its entry and its
+    /// recall.
     fn move_received(&mut self) -> Option<()> {
-        let (seat, at) = self.pick(&[RECEIVED])?;
-        let (old, to) = (Name::new(seat, self.words[at + NUMBER]), self.rng.below(SEATS));
+        let idle = self.tickets(&[RECEIVED], |host, seat, at| {
+            let number = host.words[at + NUMBER];
+            host.of_program(seat)
+                .iter()
+                .all(|t| host.words[t + KIND] != RECALL || host.words[t + OWN] != number)
+        });
+        let (seat, at) = self.rng.pick(&idle)?;
+        let old = Name::new(seat, self.words[at + NUMBER]);
+        let lender = self.recalls_of(old).first().map_or(seat, |&(lender, _)| lender);
+        let to = self.off_pad(lender);
         let place = self.move_ticket(at, to)?;
         let new = Name::new(to, self.words[place + NUMBER]);
         set_name(&mut self.words, place + DOCK, new);
+        self.retarget_all(old, new);
         let entry = self.entry(old)?;
         set_name(&mut self.words, entry + NAME, new);
         Some(())
+    }
+
+    /// The recalls that name one ticket name another.
+    fn retarget_all(&mut self, old: Name, new: Name) {
+        for (_, recall) in self.recalls_of(old) {
+            set_name(&mut self.words, recall + OTHER, new);
+        }
     }
 
     /// A child goes to its parent's own program, or to any; its recall follows.
@@ -245,19 +317,13 @@ impl Host<'_> {
         let to = if self.rng.once_in(2) { parent } else { self.rng.below(SEATS) };
         let old = Name::new(seat, self.words[at + NUMBER]);
         let place = self.move_ticket(at, to)?;
-        for (_, recall) in self.recalls_of(old) {
-            let new = Name::new(to, self.words[place + NUMBER]);
-            set_name(&mut self.words, recall + OTHER, new);
-        }
+        self.retarget_all(old, Name::new(to, self.words[place + NUMBER]));
         Some(())
     }
 
-    /// Sheets or rights change alike in a grant and its entry, often without the recalls that would tell.
+    /// Sheets or rights change alike in a grant and its entry.
     fn change_grant_and_entry(&mut self, entry: usize) {
         let own = name(&self.words, entry + NAME);
-        if !self.rng.once_in(3) {
-            self.free_recalls(own);
-        }
         let field = entry + [ENTRY_FIRST, ENTRY_COUNT, ENTRY_RIGHTS, ENTRY_RIGHTS][self.rng.below(4)];
         self.change(field, field);
         if field == entry + ENTRY_RIGHTS && !self.rng.once_in(3) {
@@ -268,28 +334,14 @@ impl Host<'_> {
         }
     }
 
-    /// A lender and a borrower lose the right to pass on, and no recall of a loan to another pad tells.
+    /// A lender and a borrower lose the right to pass on.
     fn lend_without_pass_on(&mut self, lender: Name, borrower: Name) {
         for own in [lender, borrower] {
-            self.free_recalls(own);
             let rights =
                 [self.ticket(own).map(|at| at + RIGHTS), self.entry(own).map(|at| at + ENTRY_RIGHTS)];
             for at in rights.into_iter().flatten() {
                 self.words[at] &= !PASS_ON;
             }
-        }
-    }
-
-    /// Frees the recalls of loans to other pads that stand under a grant, or that name it.
-    fn free_recalls(&mut self, own: Name) {
-        let received = self.entry(own).is_some();
-        let far = self.tickets(&[RECALL], |host, seat, at| {
-            let under = own.seat() == Some(seat) && host.words[at + OWN] == own.number;
-            let names = received && name(&host.words, at + OTHER) == own;
-            (under || names) && seat as u16 / 8 != host.words[at + OTHER]
-        });
-        for (_, at) in far {
-            self.words[at + KIND] = FREE;
         }
     }
 
@@ -337,19 +389,15 @@ impl Host<'_> {
         Some(())
     }
 
-    /// A child that is recalled from abroad gets another parent, or its parent other rights.
-    fn orphan(&mut self) -> Option<()> {
-        let (seat, child) = self.recall_from_abroad()?;
-        if self.rng.once_in(2) {
-            let own = Name::new(seat, self.words[child + NUMBER]);
-            self.lend_without_pass_on(name(&self.words, child + OTHER), own);
-        } else {
-            let other = seat / 8 * 8 + self.rng.below(8);
-            let mate = self.rng.pick(&self.of_program(other));
-            let number = mate.map_or(0, |at| self.words[at + NUMBER]);
-            set_name(&mut self.words, child + OTHER, Name::new(other, number));
-        }
-        Some(())
+    /// A child gets another grant of its pad as its parent, and its recall goes there.
+    fn adopt(&mut self) -> Option<()> {
+        let (seat, child) = self.pick(&[CHILD])?;
+        let own = Name::new(seat, self.words[child + NUMBER]);
+        let grants = self.tickets(&GRANTS, |_, other, at| other / 8 == seat / 8 && at != child);
+        let (to, parent) = self.rng.pick(&grants)?;
+        let parent = Name::new(to, self.words[parent + NUMBER]);
+        set_name(&mut self.words, child + OTHER, parent);
+        self.move_recall(own, to, parent.number)
     }
 
     /// The dock has an entry for a child.
@@ -380,7 +428,7 @@ impl Host<'_> {
         self.move_recall(top, seat, bottom.number)
     }
 
-    /// An entry gets one below it as its parent; the recall that names it goes.
+    /// An entry gets one below it as its parent, and its recall goes there.
     fn ring_of_entries(&mut self, low: usize) -> Option<()> {
         let bottom = name(&self.words, low + NAME);
         let (mut at, mut top) = (low, bottom);
@@ -392,9 +440,7 @@ impl Host<'_> {
             }
         }
         set_name(&mut self.words, at + PARENT, bottom);
-        let &(_, recall) = self.recalls_of(top).first()?;
-        self.words[recall + KIND] = FREE;
-        Some(())
+        self.move_recall(top, bottom.seat()?, bottom.number)
     }
 
     fn swap(&mut self, one: usize, two: usize, length: usize) {
@@ -442,10 +488,15 @@ impl Host<'_> {
         self.rng.pick(&free)
     }
 
-    /// A new number of the program.
-    fn fresh(&mut self, seat: usize) -> u16 {
+    /// Some program of another pad.
+    fn off_pad(&mut self, seat: usize) -> usize {
+        (seat / 8 * 8 + 8 + self.rng.below(SEATS - 8)) % SEATS
+    }
+
+    /// A new number of the program, where one is left.
+    fn fresh(&mut self, seat: usize) -> Option<u16> {
         let last = &mut self.words[last_at(seat)];
-        *last = last.saturating_add(1);
-        *last
+        *last = last.checked_add(1)?;
+        Some(*last)
     }
 }

@@ -3,9 +3,11 @@
 //! usage: differential [REQUESTS] [SEED]
 
 mod damage;
+mod follow;
 mod texts;
 
-use dock::{raw, ANSWER, REQUEST};
+use dock::{raw, ANSWER, RECALL, REQUEST};
+use follow::Followed;
 use image::random::Rng;
 use image::View;
 use model::{Answer, Name, Request, State, SEATS, SHEET, STORE};
@@ -29,10 +31,36 @@ struct Counts {
     results: [usize; 15],
     in_order: usize,
     not_in_order: usize,
+    far_child: usize,
+    unrecalled: usize,
+    followed: Followed,
     batches: usize,
-    fell_midway: usize,
     traces: usize,
     checks: usize,
+}
+
+impl Counts {
+    /// All that was counted, in words. Nothing of it may be rare.
+    fn rows(&self) -> Vec<(String, usize)> {
+        let mut rows = vec![("requests compared".to_string(), self.requests)];
+        rows.extend(self.results.iter().enumerate().map(|(result, &count)| match result {
+            0 => ("  accepted".to_string(), count),
+            _ => (format!("  refused {result}"), count),
+        }));
+        let others = [
+            ("images in order", self.in_order),
+            ("images not in order", self.not_in_order),
+            ("  a far child recalled", self.far_child),
+            ("  an entry not recalled", self.unrecalled),
+            ("batches", self.batches),
+            ("checks of the dock", self.checks),
+            ("traces", self.traces),
+        ];
+        rows.extend(
+            self.followed.rows().into_iter().chain(others).map(|(what, count)| (what.to_string(), count)),
+        );
+        rows
+    }
 }
 
 /// A request that was served, for the batch that plays it again.
@@ -88,6 +116,9 @@ impl Sides {
             if let Some(difference) = View::of(&library).difference(&View::of(state)) {
                 return Err(report(format!("tables of library and model: {difference}")));
             }
+            if !state.in_order() {
+                return Err(report("the tables fell out of order".to_string()));
+            }
         }
         differ("store, byte", &self.store, &self.kept).map_err(report)?;
         differ("sheet buffer, byte", &sheet, &kept_sheet).map_err(report)?;
@@ -107,6 +138,12 @@ impl Sides {
             1 | 2 => self.compare_checks(rng, counts),
             _ => Ok(()),
         }
+    }
+
+    /// Both sides find these tables out of order.
+    fn both_refuse(&self, rng: &mut Rng, counts: &mut Counts) -> Result<(), String> {
+        self.compare_order(rng, counts)?;
+        differ("in order, one clause of T6 broken", &[self.verdict()], &[14])
     }
 
     fn compare_checks(&self, rng: &mut Rng, counts: &mut Counts) -> Result<(), String> {
@@ -290,10 +327,18 @@ impl Driver {
             let image = damage::damage(tables, self.rng.below(4), harm, &mut self.rng);
             Sides::from_image(image, store.clone()).compare_order(&mut self.rng, &mut self.counts)?;
         }
+        if let Some(image) = damage::far_child(tables, &mut self.rng) {
+            Sides::from_image(image, store.clone()).both_refuse(&mut self.rng, &mut self.counts)?;
+            self.counts.far_child += 1;
+        }
+        if let Some(image) = damage::unrecalled(tables, &mut self.rng) {
+            Sides::from_image(image, store.clone()).both_refuse(&mut self.rng, &mut self.counts)?;
+            self.counts.unrecalled += 1;
+        }
         let image = match self.rng.below(8) {
             0 => damage::rearrange(tables, &mut self.rng),
             1 | 2 => damage::spend_numbers(tables, &mut self.rng),
-            3 | 4 => damage::damage(tables, 8, 0, &mut self.rng),
+            3..6 => damage::damage(tables, 8, 0, &mut self.rng),
             _ => damage::damage(tables, 2, 1, &mut self.rng),
         };
         Ok(Sides::from_image(image, store))
@@ -309,9 +354,13 @@ impl Driver {
             self.counts.results[13] += 1;
         }
         self.counts.requests += 1;
+        let before = if request.op == RECALL { sides.state.clone() } else { None };
         let served = sides.step(&request, self.rng.sheet())?;
         let [result, ticket, recipient] = served.answer;
         self.counts.results[result as usize] += 1;
+        if let (0, Some(before), Some(after)) = (result, &before, &sides.state) {
+            self.counts.followed.note(&request, before, after);
+        }
         asker.heard(&mut self.rng, &request, &Answer { result, ticket, recipient });
         if self.rng.once_in(8) {
             sides.compare_checks(&mut self.rng, &mut self.counts)?;
@@ -326,7 +375,6 @@ impl Driver {
             served.push(self.one(sides, asker)?);
         }
         self.counts.batches += 1;
-        self.counts.fell_midway += usize::from(begun == 0 && sides.verdict() != 0);
         sides.batch((&tables, &store), begun, &served)
     }
 
@@ -353,20 +401,14 @@ fn main() -> ExitCode {
         return ExitCode::FAILURE;
     }
     let counts = &driver.counts;
-    println!("requests compared  {:>9}", counts.requests);
-    for (result, count) in counts.results.iter().enumerate() {
-        let label = if result == 0 { "accepted".into() } else { format!("refused {result}") };
-        println!("  {label:<17}{count:>9}");
+    let rows = counts.rows();
+    for (what, count) in &rows {
+        println!("{what:<24}{count:>9}");
     }
-    println!("images in order    {:>9}", counts.in_order);
-    println!("images not in order{:>9}", counts.not_in_order);
-    println!("batches            {:>9}", counts.batches);
-    println!("  out of order midway{:>7}", counts.fell_midway);
-    println!("checks of the dock {:>9}", counts.checks);
-    println!("traces             {:>9}", counts.traces);
-    let missing: Vec<usize> = (0..15).filter(|&result| counts.results[result] == 0).collect();
-    if !missing.is_empty() {
-        println!("not reached: {missing:?}");
+    let idle: Vec<&str> =
+        rows.iter().filter(|row| 1000 * row.1 < counts.requests).map(|row| row.0.trim()).collect();
+    if !idle.is_empty() {
+        println!("hardly reached: {}", idle.join(", "));
         return ExitCode::FAILURE;
     }
     let images = counts.in_order + counts.not_in_order;

@@ -1,8 +1,8 @@
 //! Random requests of some of the programs among themselves, which lean towards what is rare: deep chains,
-//! stale grants, full places, several faults in one request.
+//! loans on a pad that go on to other pads, stale grants, full places, several faults in one request.
 
 use image::random::Rng;
-use model::{Answer, Grant, Name, Request, State, Ticket, PASS_ON, SEATS};
+use model::{Answer, Grant, Name, Request, Source, State, Ticket, PASS_ON, SEATS};
 use std::collections::VecDeque;
 
 /// A set of programs, by their seats.
@@ -67,15 +67,37 @@ pub struct Asker {
     after: VecDeque<Request>,
 }
 
-/// A loan that is passed on and on.
+/// A taken grant that is lent once, and what was lent is lent on and on.
 struct Chain {
-    /// The newest grant; nothing before the take.
-    at: Option<Name>,
-    /// The recall of a first loan to another pad, from which on the chain stays there.
-    head: Option<Name>,
+    way: Way,
+    /// Does the first loan go to another pad?
     first_far: bool,
-    /// Every link goes to the next pad.
-    around: bool,
+    /// Requests still to be made.
+    left: usize,
+    /// The grants so far, the newest last, and the recalls of the loans.
+    grants: Vec<Name>,
+    recalls: Vec<Name>,
+}
+
+/// Where the loans go, behind the first.
+#[derive(Clone, Copy)]
+enum Way {
+    /// To the next program of the pad.
+    OnPad,
+    /// To the next pad.
+    Around,
+    /// From any borrower so far to any program: no chain but a tree.
+    Anywhere,
+}
+
+impl Chain {
+    fn new(rng: &mut Rng, way: Way) -> Self {
+        let left = match way {
+            Way::Anywhere => 3 + rng.below(24),
+            _ => [4, 12, SEATS * 8, SEATS * 8][rng.below(4)],
+        };
+        Chain { way, first_far: rng.once_in(2), left, grants: Vec::new(), recalls: Vec::new() }
+    }
 }
 
 const WEIGHTS: [[usize; 6]; 6] = [
@@ -89,7 +111,6 @@ const WEIGHTS: [[usize; 6]; 6] = [
 
 impl Asker {
     pub fn new(rng: &mut Rng, seats: Seats) -> Self {
-        let (first_far, around) = (rng.once_in(2), rng.once_in(3));
         Asker {
             seats,
             weights: WEIGHTS[rng.below(WEIGHTS.len())],
@@ -97,12 +118,18 @@ impl Asker {
             large: rng.once_in(5),
             whole: rng.once_in(2),
             ill: [8, 16, 200][rng.below(3)],
-            chain: rng.once_in(4).then_some(Chain { at: None, head: None, first_far, around }),
+            chain: rng.once_in(4).then(|| {
+                let way = [Way::OnPad, Way::Around][rng.below(2)];
+                Chain::new(rng, way)
+            }),
             after: VecDeque::new(),
         }
     }
 
     pub fn next(&mut self, rng: &mut Rng, state: &State) -> Request {
+        if self.chain.is_none() && rng.once_in(40) {
+            self.chain = Some(Chain::new(rng, Way::Anywhere));
+        }
         if let Some(link) = self.link(rng) {
             return link;
         }
@@ -123,15 +150,25 @@ impl Asker {
     /// The chain's next request.
     fn link(&mut self, rng: &mut Rng) -> Option<Request> {
         let chain = self.chain.as_ref()?;
-        let Some(at) = chain.at else {
+        let Some(&newest) = chain.grants.last() else {
             let (by, count) = (Name::new(self.seats.pick(rng), 0), 1 + rng.below(3) as u16);
             return Some(Request { count, rights: 7, ..Request::by(by, 1) });
         };
+        let (at, abroad) = match chain.way {
+            _ if chain.recalls.is_empty() => (newest, chain.first_far),
+            Way::OnPad => (newest, false),
+            Way::Around => (newest, true),
+            Way::Anywhere => (chain.grants[1 + rng.below(chain.grants.len() - 1)], rng.once_in(2)),
+        };
         let seat = at.seat()?;
-        let abroad = chain.around || chain.first_far && chain.head.is_none();
-        let to = if abroad { (seat + 8) % SEATS } else { seat / 8 * 8 + (seat + 1) % 8 };
-        // Around the pads, each time round goes to the next program.
-        let to = if chain.around && seat >= 24 { (to + 1) % 8 } else { to };
+        let to = match (chain.way, abroad) {
+            (Way::Anywhere, true) => rng.below(SEATS),
+            (Way::Anywhere, false) => seat / 8 * 8 + rng.below(8),
+            (_, false) => seat / 8 * 8 + (seat + 1) % 8,
+            // Each time round goes to the next program.
+            (_, true) if seat >= 24 => (seat + 1) % 8,
+            (_, true) => seat + 8,
+        };
         // Where nobody is left to lend to, the pass to oneself that ends the chain.
         let to = self.seats.from(to, |to| to != seat && (to / 8 != seat / 8) == abroad).unwrap_or(seat);
         Some(Request { count: 1, rights: 7, ..to_seat(Request::by(at, 2), to) })
@@ -139,26 +176,36 @@ impl Asker {
 
     /// Takes note of an answer.
     pub fn heard(&mut self, rng: &mut Rng, request: &Request, answer: &Answer) {
-        let Some(chain) = &mut self.chain else { return };
+        let Some(mut chain) = self.chain.take() else { return };
         let seat = (request.pad * 8 + request.program) as usize;
-        match (answer.result, chain.at) {
-            (0, None) => chain.at = Some(Name::new(seat, answer.ticket)),
-            (0, Some(_)) => {
-                if chain.first_far && chain.head.is_none() {
-                    chain.head = Some(Name::new(seat, answer.ticket));
-                }
+        let begun = !chain.grants.is_empty();
+        if answer.result == 0 {
+            let own = Name::new(seat, answer.ticket);
+            if begun {
                 let to = (request.topad * 8 + request.toprogram) as usize;
-                chain.at = Some(Name::new(to, answer.recipient));
+                chain.recalls.push(own);
+                chain.grants.push(Name::new(to, answer.recipient));
+            } else {
+                chain.grants.push(own);
             }
-            (_, at) => {
-                // The chain can't go on. Where its head is a loan from another pad, that is recalled, and
-                // then the last link is used.
-                if let (Some(at), Some(head), true) = (at, chain.head, rng.once_in(2)) {
-                    self.after.push_back(Request::by(head, 3));
-                    self.after.push_back(Request::by(at, 5));
-                }
-                self.chain = None;
-            }
+        }
+        chain.left -= 1;
+        // A tree can go on from another borrower.
+        let goes_on = answer.result == 0 || begun && matches!(chain.way, Way::Anywhere);
+        if goes_on && chain.left > 0 {
+            self.chain = Some(chain);
+        } else {
+            self.end(rng, &chain);
+        }
+    }
+
+    /// Loans of the chain are recalled, the first or some other, and a grant of it is used before and after.
+    fn end(&mut self, rng: &mut Rng, chain: &Chain) {
+        let (Some(&first), Some(&last)) = (chain.recalls.first(), chain.grants.last()) else { return };
+        for _ in 0..1 + rng.below(3) {
+            let recall = if rng.once_in(2) { first } else { rng.pick(&chain.recalls).unwrap_or(first) };
+            let used = if rng.once_in(2) { last } else { rng.pick(&chain.grants).unwrap_or(last) };
+            self.after.extend([Request::by(used, 5), Request::by(recall, 3), Request::by(used, 5)]);
         }
     }
 
@@ -176,17 +223,8 @@ impl Asker {
         if op == 1 || live.is_empty() {
             return self.take(rng, &live);
         }
-        // Mostly a ticket that the operation is for; among grants, often a stale one.
-        let stale = rng.once_in(8);
-        let fitting: Vec<(Name, Ticket)> = live
-            .iter()
-            .filter(|(name, ticket)| match (ticket, op) {
-                (Ticket::Recall { .. }, op) => op == 3,
-                (Ticket::Grant(g), 4) => g.source == model::Source::Taken && g.dock == *name,
-                (Ticket::Grant(g), op) => op != 3 && (!stale || state.entry(g.dock).is_none()),
-            })
-            .copied()
-            .collect();
+        // Mostly a ticket that the operation is for.
+        let fitting = fitting(rng, state, &live, op);
         let chosen = if rng.once_in(24) { rng.pick(&live) } else { rng.pick(&fitting).or(rng.pick(&live)) };
         let (mut name, ticket) = chosen.expect("there is a live ticket");
         if rng.once_in(30) {
@@ -202,9 +240,11 @@ impl Asker {
                 let to = self.seats.pick(rng);
                 Request { count: 1, rights: 1 + rng.below(7) as u16, ..to_seat(request, to) }
             }
-            (3, Ticket::Recall { target, .. }) => {
-                if target.pad != name.pad && rng.once_in(2) {
-                    self.use_after_recall(rng, state, target);
+            (3, Ticket::Recall { target, .. }) if rng.once_in(2) => {
+                let ended =
+                    if target.pad == name.pad { loan_under(rng, state, target) } else { Some(target) };
+                if let Some(loan) = ended {
+                    self.use_after_recall(rng, state, loan);
                 }
                 request
             }
@@ -273,6 +313,61 @@ impl Asker {
     fn busy(&self, rng: &mut Rng, live: &[(Name, Ticket)]) -> usize {
         rng.pick(live).and_then(|(name, _)| name.seat()).unwrap_or(self.seats.list[0])
     }
+}
+
+/// The tickets that an operation other than take is for; of grants, now and then only the stale ones, of recalls,
+/// often only those of loans that went on to other pads.
+fn fitting(rng: &mut Rng, state: &State, live: &[(Name, Ticket)], op: u16) -> Vec<(Name, Ticket)> {
+    let (stale, off) = (rng.once_in(8), op == 3 && rng.once_in(2));
+    let lent_off = if off { lent_off(state) } else { Vec::new() };
+    let fits = |(name, ticket): &(Name, Ticket), off: bool| match (ticket, op) {
+        (Ticket::Recall { target, .. }, op) => {
+            op == 3 && (!off || lent_off.iter().any(|(child, _)| child == target))
+        }
+        (Ticket::Grant(g), 4) => g.source == Source::Taken && g.dock == *name,
+        (Ticket::Grant(g), op) => op != 3 && (!stale || state.entry(g.dock).is_none()),
+    };
+    let those = |off| live.iter().filter(|ticket| fits(ticket, off)).copied().collect::<Vec<_>>();
+    let some = those(off);
+    if off && some.is_empty() {
+        those(false)
+    } else {
+        some
+    }
+}
+
+/// Each child with each loan to another pad that its pad made from it, at any depth.
+fn lent_off(state: &State) -> Vec<(Name, Name)> {
+    let mut found = Vec::new();
+    for (name, ticket) in state.tickets() {
+        let Ticket::Recall { own, target } = *ticket else { continue };
+        if target.pad == name.pad {
+            continue;
+        }
+        let mut at = Name { number: own, ..name };
+        // A chain has fewer links than its pad has places; damaged tables can have rings.
+        for _ in 0..64 {
+            let Some(Ticket::Grant(Grant { source: Source::Child { parent }, .. })) = state.ticket(at) else {
+                break;
+            };
+            found.push((at, target));
+            at = *parent;
+        }
+    }
+    found
+}
+
+/// One of the loans to other pads from this child, or one that was lent on from there.
+fn loan_under(rng: &mut Rng, state: &State, child: Name) -> Option<Name> {
+    let loans: Vec<Name> =
+        lent_off(state).into_iter().filter(|(from, _)| *from == child).map(|(_, to)| to).collect();
+    let mut loan = rng.pick(&loans)?;
+    while rng.once_in(2) {
+        let below: Vec<Name> =
+            state.entries().filter(|(_, entry)| entry.parent == Some(loan)).map(|(name, _)| name).collect();
+        loan = rng.pick(&below).unwrap_or(loan);
+    }
+    Some(loan)
 }
 
 /// The request with another recipient.
