@@ -569,6 +569,8 @@ static void refused_tables(void)
     SPOILT(entry_place_at(DOCK_ENTRIES - 1) + DOCK_ENTRY_LIVE_AT, 2);
     SPOILT(ticket_at(__LINE__, capture, 1) + DOCK_TICKET_NUMBER_AT, 2); /* above last */
     SPOILT(last_at(capture), 0);
+    ACCEPTED(pass(capture, 1, nurse, 0, 1, ALL), 2, 1);
+    SPOILT(ticket_at(__LINE__, capture, 2) + DOCK_TICKET_KIND_AT, DOCK_KIND_FREE); /* a loan without its recall */
     end();
 }
 

@@ -169,11 +169,20 @@ static struct who walked(unsigned n, int over_pads)
     return who;
 }
 
-enum way { ON_A_PAD, OVER_PADS, AGAINST_PLACES, WAYS };
-static const char *const way_names[WAYS] = {"loans on a pad", "loans over pads", "loans over pads, each in a lower place of the dock"};
+enum way { ON_A_PAD, OVER_PADS, AGAINST_PLACES, OFF_THE_PAD, WAYS };
+static const char *const way_names[WAYS] = {"loans on a pad", "loans over pads", "loans over pads, each in a lower place of the dock",
+                                            "a loan on a pad, lent on over pads"};
 
 /* As many loans as the places allow: each takes two, the recall's and the grant's. */
 enum { LOANS_ON_A_PAD = DOCK_PROGRAMS * DOCK_PLACES / 2 - 1, LOANS = DOCK_ENTRIES / 2 - 1 };
+
+/* Who has the n-th grant of a chain. Off the pad, the walk first goes to the next program of its pad; what it left out for that comes last. */
+static struct who holder(enum way way, unsigned n)
+{
+    if (way == OFF_THE_PAD && n > 0)
+        n = (n + DOCK_PADS - 2) % LOANS + 1;
+    return walked(n, way != ON_A_PAD);
+}
 
 /* The root's recall of its first loan, and a read of the last borrower's. */
 static struct dock_request recall_all, read_last;
@@ -209,13 +218,12 @@ static void pass_on(struct who from, uint16_t ticket, struct who to)
 static void lend_on(enum way way)
 {
     static uint16_t kept[LOANS];
-    int over_pads = way != ON_A_PAD;
-    unsigned loans = over_pads ? LOANS : LOANS_ON_A_PAD, i;
+    unsigned loans = way == ON_A_PAD ? LOANS_ON_A_PAD : LOANS, i;
     uint16_t ticket;
 
     empty();
     for (i = loans; way == AGAINST_PLACES && i-- > 0;) {
-        take_one(walked(i, over_pads));
+        take_one(holder(way, i));
         kept[i] = answer.ticket;
     }
     take_one(root);
@@ -223,13 +231,13 @@ static void lend_on(enum way way)
     root_sheet = (uint16_t)(way == AGAINST_PLACES ? loans : 0);
     for (i = 0; i < loans; i++) {
         if (way == AGAINST_PLACES)
-            ask("give back", by(walked(i, over_pads), DOCK_GIVE_BACK, kept[i]), DOCK_ACCEPTED);
-        pass_on(walked(i, over_pads), ticket, walked(i + 1, over_pads));
+            ask("give back", by(holder(way, i), DOCK_GIVE_BACK, kept[i]), DOCK_ACCEPTED);
+        pass_on(holder(way, i), ticket, holder(way, i + 1));
         ticket = answer.recipient;
         if (i == 0)
             recall_all = by(root, DOCK_RECALL, answer.ticket);
     }
-    read_last = by(walked(loans, over_pads), DOCK_READ, ticket);
+    read_last = by(holder(way, loans), DOCK_READ, ticket);
 }
 
 static void use_chains(void)
@@ -247,6 +255,83 @@ static void use_chains(void)
         ask("write", read_last, DOCK_ACCEPTED);
         ask("give back of all that was lent", by(root, DOCK_GIVE_BACK, root_ticket), DOCK_ACCEPTED);
     }
+}
+
+/* The tickets of a program, as the image has them. */
+static unsigned tickets_of(struct who who)
+{
+    unsigned place, live = 0;
+    for (place = 0; place < DOCK_PLACES; place++)
+        live += get(place_at(who, place) + DOCK_TICKET_KIND_AT) != DOCK_KIND_FREE;
+    return live;
+}
+
+/* A program with a free place, neither of the root's pad nor of this one, from the n-th on; 0 where there is none. */
+static int borrower(struct who *found, uint16_t not_on, unsigned n)
+{
+    unsigned end = n + DOCK_PADS * DOCK_PROGRAMS;
+    for (; n < end; n++) {
+        *found = walked(n, 1);
+        if (found->pad != root.pad && found->pad != not_on && tickets_of(*found) < DOCK_PLACES)
+            return 1;
+    }
+    return 0;
+}
+
+/* The loans to other pads, as reads of each. */
+static struct dock_request lent[DOCK_ENTRIES];
+static unsigned lent_count;
+
+/* Lends to other pads as long as there are places, to the n-th program first. */
+static void lend_off(struct who from, uint16_t ticket, unsigned n)
+{
+    struct who to;
+    while (tickets_of(from) < DOCK_PLACES && borrower(&to, from.pad, n++)) {
+        pass_on(from, ticket, to);
+        lent[lent_count++] = by(to, DOCK_READ, answer.recipient);
+    }
+}
+
+/* From an emptied dock, a loan that goes round the programs of the root's pad, to the root too; each borrower's ticket. */
+static void lend_round(uint16_t tickets[DOCK_PROGRAMS])
+{
+    struct who from = root, to;
+    unsigned i;
+
+    empty();
+    take_one(root);
+    root_ticket = answer.ticket;
+    root_sheet = 0;
+    for (i = 0; i < DOCK_PROGRAMS; i++, from = to) {
+        to = walked(i + 1, 0);
+        pass_on(from, i == 0 ? root_ticket : answer.recipient, to);
+        tickets[to.program] = answer.recipient;
+        if (i == 0)
+            recall_all = by(root, DOCK_RECALL, answer.ticket);
+    }
+}
+
+/* Loans to other pads from every borrower on a pad, and on from pad to pad, as many as there are places: one recall on the pad ends all. */
+static void use_loans_off_the_pad(void)
+{
+    uint16_t tickets[DOCK_PROGRAMS];
+    struct who from = root;
+    unsigned off, i;
+
+    lend_round(tickets);
+    for (; from.program < DOCK_PROGRAMS; from.program++)
+        lend_off(from, tickets[from.program], lent_count);
+    off = lent_count;
+    for (i = 0; i < lent_count; i++) {
+        from.pad = lent[i].pad;
+        from.program = lent[i].program;
+        lend_off(from, lent[i].ticket, i);
+    }
+    printf("%u loans off the pad, lent on %u times\n", off, lent_count - off);
+    measure_order("loans off the pad at every depth", DOCK_ACCEPTED);
+    ask("recall of all loans", recall_all, DOCK_ACCEPTED);
+    for (i = 0; i < lent_count; i++)
+        ask("use of a recalled loan", lent[i], DOCK_NO_ENTRY);
 }
 
 /* A loan to another pad that is lent on there, recalled: the last borrower's next write drops the whole chain. */
@@ -327,22 +412,22 @@ static void make_children(int ring)
     }
 }
 
-/* A taken grant and received ones, whose entries are a chain, or a ring, of so many; the first link has the first place, or the last. */
-static void make_entries(unsigned links, int ring, int backwards)
+/* A taken grant and received ones, whose entries are a chain, or a ring; the first link has the first place, or the last. */
+static void make_entries(int ring, int backwards)
 {
     unsigned n;
 
     empty();
-    for (n = 0; n < links; n++) {
-        struct name name = link_name(n, 1), parent = link_name((n + links - 1) % links, 1);
+    for (n = 0; n < DOCK_ENTRIES; n++) {
+        struct name name = link_name(n, 1), parent = link_name((n + DOCK_ENTRIES - 1) % DOCK_ENTRIES, 1);
         int head = n == 0 && !ring;
 
         put_grant(name, head ? DOCK_KIND_TAKEN : DOCK_KIND_RECEIVED, the_store, name);
-        put_entry(backwards ? links - 1 - n : n, name, head ? the_store : parent);
+        put_entry(backwards ? DOCK_ENTRIES - 1 - n : n, name, head ? the_store : parent);
     }
 }
 
-/* In a program's last place, which a chain has left, a recall of this target, under its first grant. */
+/* In a program's last place a recall of this target, under its first grant. */
 static void put_recall(struct who who, struct name target)
 {
     size_t at = place_at(who, DOCK_PLACES - 1);
@@ -354,21 +439,21 @@ static void put_recall(struct who who, struct name target)
     put(last_at(who), DOCK_PLACES);
 }
 
-/*
- * A child on pad 1 that a recall of pad 0 names: in order, but tables that a request can put out of order, so that a trace tests them
- * before each line.
- */
-static void put_far_child(void)
+/* In order but for a child on pad 1 that a recall of pad 0 names. */
+static void make_far_child(void)
 {
     const struct name parent = {1, 0, 1}, child = {1, 1, DOCK_PLACES};
+    const struct who nurse = {1, 0};
 
+    empty();
+    take_one(root);
+    pass_on(root, answer.ticket, nurse);
     put_grant(child, DOCK_KIND_CHILD, parent, parent);
     put_recall(root, child);
 }
 
 static void use_made_images(void)
 {
-    const struct who last = {DOCK_PADS - 1, DOCK_PROGRAMS - 1};
     int backwards;
 
     root_ticket = 1;
@@ -377,19 +462,13 @@ static void use_made_images(void)
     measure_order("a ring of 64 children", DOCK_NOT_IN_ORDER);
     make_children(0);
     measure_order("a chain of 63 children, without recalls", DOCK_NOT_IN_ORDER);
+    make_far_child();
+    measure_order("a recall of another pad's child", DOCK_NOT_IN_ORDER);
     for (backwards = 0; backwards <= 1; backwards++) {
-        make_entries(DOCK_ENTRIES, 1, backwards);
+        make_entries(1, backwards);
         measure_order("a ring of 256 entries", DOCK_NOT_IN_ORDER);
-        make_entries(DOCK_ENTRIES, 0, backwards);
-        measure_order("a chain of 256 entries", DOCK_ACCEPTED);
-        ask("give back of a chain of 256 entries", by(root, DOCK_GIVE_BACK, root_ticket), DOCK_ACCEPTED);
-        make_entries(DOCK_ENTRIES - 1, 0, backwards);
-        put_recall(last, link_name(DOCK_PADS * DOCK_PROGRAMS, 1));
-        measure_order("a chain of 255 entries and a recall", DOCK_ACCEPTED);
-        ask("recall in a chain of 255 entries", by(last, DOCK_RECALL, DOCK_PLACES), DOCK_ACCEPTED);
-        make_entries(DOCK_ENTRIES - DOCK_PADS * DOCK_PROGRAMS, 0, backwards);
-        put_far_child();
-        measure_order("a chain of 224 entries and a recall of another pad's child", DOCK_ACCEPTED);
+        make_entries(0, backwards);
+        measure_order("a chain of 256 entries, without recalls", DOCK_NOT_IN_ORDER);
     }
 }
 
@@ -455,6 +534,7 @@ int main(void)
     thread_alone = depth(nothing);
     measure("dock_empty", empty, DOCK_ACCEPTED);
     use_chains();
+    use_loans_off_the_pad();
     use_stale_chain();
     use_made_images();
     measure("damaged images", use_damaged_images, DOCK_ACCEPTED);
