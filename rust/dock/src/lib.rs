@@ -98,7 +98,7 @@ impl Request {
         Request { pad, program, op: PASS, ticket, topad, toprogram, first, count, rights }
     }
 
-    /// Takes back what the recall `ticket` stands for.
+    /// Takes back what the recall `ticket` stands for, and all that was lent on from there.
     pub fn recall(pad: u16, program: u16, ticket: u16) -> Self {
         Request { pad, program, op: RECALL, ticket, ..Request::default() }
     }
