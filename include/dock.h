@@ -53,7 +53,7 @@ extern "C" {
 
 /*
  * Bytes of stack that a call may take, its own frame included; dock_trace has its own number, because
- * it measures a trace on a copy of the dock. tests/stack.c measures at most 19,832 and 47,416, with
+ * it measures a trace on a copy of the dock. tests/stack.c measures at most 20,312 and 47,896, with
  * chains and rings of 256 entries; this is not proved.
  */
 #define DOCK_STACK 32768
