@@ -1,25 +1,30 @@
 -- A host's dock that stands for a state in order: its image is that of the tables, and is read as them. Such a dock is whole and passes the
--- order test. An emptied dock stands for the machine's.
-use Prim.Native.Nat.{ℕ}
-use mathlib.Core.Path.{_≡_, ap, _∙_}
+-- order test. An emptied dock stands for the machine's, and one
+-- that passes the order test for what its bytes say.
+use Prim.Native.Nat.{ℕ, _<_}
+use native.Mathlib.Omega.{arith}
+use mathlib.Core.Path.{_≡_, refl, sym, ap, _∙_}
 use mathlib.Core.Bool.{true}
 use mathlib.Core.List.{List}
-use lib.ListN.{length}
+use lib.ListN.{length, getD}
 use borrow.Author.Tests.{eq-eqb}
-use Rattle.lists.proofs.Tests.{and-intro}
+use Rattle.lists.proofs.Tests.{Case, pass, fail, case, and-l, and-r, and-intro}
 use Rattle.tables.specs.Names.{emptyTables}
 use Rattle.tables.specs.Order.{inOrder}
 use Rattle.machine.specs.State.{State}
 use Rattle.machine.specs.Refusal.{_when_else_}
 use Rattle.machine.specs.Empty.{emptied, emptyDock, emptyStore}
 use Rattle.preservation.specs.InOrder.{DockOk}
+use Rattle.preservation.proofs.TestMeansOrder.{test-means-order}
 use Rattle.preservation.proofs.OrderPassesTest.{order-passes-test}
 use Rattle.preservation.proofs.StepKeepsOrder.{empty-dock-ok}
 use Rattle.image.specs.Layout.{imageSize}
 use Rattle.image.specs.Image.{encode, decode, isImage}
-use Rattle.image.proofs.RoundTrip.{decode-encode, encode-is-image, image-whole}
+use Rattle.image.proofs.RoundTrip.{decode-encode, encode-decode, encode-is-image, image-whole}
+use Rattle.image_find.proofs.Laws.{decoded-sized}
 use Rattle.lending.specs.Batch.{tablesOk}
 use Rattle.lending.specs.Host.{EmptiedImage, emptyImage, orderOf}
+use Rattle.lending.specs.Trace.{dockOf}
 use Rattle.host_isolation.specs.Calls.{Dock, WholeDock, emptying, left}
 
 pub record Stands (d : Dock) (s : State) : Type 0 where
@@ -61,3 +66,23 @@ unfolding left emptyDock
 emptied-stands d w =
     let e = is-emptied (d .image) (d .store) (w .image) (w .store) in
     record { image = λ i. e i .tables; store = λ i. e i .store; ok = empty-dock-ok }
+
+-- ---- a dock whose order test answers 0 stands for what its bytes say
+passed-order : (image : List ℕ) → Case (tablesOk image) → orderOf image ≡ 0 → length image ≡ imageSize → tablesOk image ≡ true
+unfolding orderOf _when_else_
+passed-order image (pass e) z long = e
+passed-order image (fail e) z long = let fourteen : _≡_ {A = ℕ} 14 0 = rw (eq-eqb (length image) imageSize long, e) at z in absurd (omega (arith, fourteen))
+
+pub kept-stands : (d : Dock) → WholeDock d → ((i : ℕ) → getD (d .image) i 0 < 256) → orderOf (d .image) ≡ 0 → Stands d (dockOf (d .image) (d .store))
+unfolding tablesOk
+kept-stands d w small z =
+    let ok = passed-order (d .image) (case (tablesOk (d .image))) z (w .image) in
+    let is = and-l (isImage (d .image)) (inOrder (decode (d .image))) ok in
+    record {
+      image = sym (encode-decode (d .image) small is);
+      store = refl;
+      ok = record {
+        tables = test-means-order (decode (d .image)) (decoded-sized (d .image)) (and-r (isImage (d .image)) (inOrder (decode (d .image))) ok);
+        store = w .store;
+      };
+    }

@@ -27,9 +27,9 @@ use Rattle.trace_texts.proofs.AnswersLaws.{trace-short-from}
 use Rattle.lending.specs.Batch.{lengthsFit, batchRefusal, allServed, untouched, batch}
 use Rattle.lending.specs.Host.{stepRefusal, stepImage, checkImage}
 use Rattle.lending.specs.Trace.{dockOf, traceOf, traceRefusal, traceLent}
-use Rattle.host_isolation.specs.Calls.{Dock, Call, emptying, stepping, serving, tracing, checking, testing, lent, lentTrace, result, left, leftByAll, Exchange, made, empties, Usable, UsableForHosts}
+use Rattle.host_isolation.specs.Calls.{Dock, Call, emptying, stepping, serving, tracing, checking, testing, lent, lentTrace, result, left, leftByAll, Exchange, made, empties, Usable, UsableForHosts, UsableInOrder}
 use Rattle.host_isolation.proofs.Traced.{traced}
-use Rattle.host_isolation.proofs.Stands.{Stands, is-image, in-order, tables-ok, stands-whole, order-0, is-emptied, emptied-stands}
+use Rattle.host_isolation.proofs.Stands.{Stands, is-image, in-order, tables-ok, stands-whole, order-0, is-emptied, emptied-stands, kept-stands}
 use Rattle.host_isolation.proofs.OneCall.{startFor, step-low}
 use Rattle.host_isolation.proofs.ForHosts.{call-makes}
 
@@ -174,3 +174,7 @@ usable-after (c ∷ cs) d s h =
 pub usable-for-hosts : UsableForHosts
 unfolding leftByAll
 usable-for-hosts d w cs = usable-after cs (left d emptying) emptyDock (emptied-stands d w)
+
+pub usable-in-order : UsableInOrder
+unfolding result
+usable-in-order d w small z cs = usable-after cs d (dockOf (d .image) (d .store)) (kept-stands d w small z)

@@ -1,10 +1,11 @@
 -- Demand 3 for a host: isolation over any calls of the C boundary. A dock is two buffers of the host's, the tables' image and the store; each
 -- call finds them as the one before left them, and leaves what its contract says: `emptyImage`, `stepImage`, `batch`, `traceLent`. The claim is
--- `IsolatedForHosts`; that no call of others makes a dock refuse is `UsableForHosts`.
+-- `IsolatedForHosts`; that no call of others makes a dock refuse is `UsableForHosts`,
+-- and `UsableInOrder` of tables of any origin.
 -- It is false of three wrong hosts, by computed examples (proofs/WrongHosts): one that lends two copies of its dock in turn, so that a call
 -- does not meet what the last one left; one that puts back the bytes that a refused request met, which on 12 are not those that it left; one
 -- that counts requests across an emptying.
-use Prim.Native.Nat.{ℕ, _*_, _≤_}
+use Prim.Native.Nat.{ℕ, _*_, _≤_, _<_}
 use mathlib.Core.Path.{_≡_}
 use mathlib.Core.Logic.{_↔_}
 use mathlib.Core.Bool.{Bool, true, false, not, _&&_, cond}
@@ -185,3 +186,7 @@ pub record Usable (d : Dock) : Type 0 where
 
 abbrev pub UsableForHosts : Type 0
 UsableForHosts = (d : Dock) → WholeDock d → (cs : List Call) → Usable (leftByAll d (emptying ∷ cs))
+
+-- Since every request keeps the order, for tables of any origin (02, 1/13), so it is of a dock that a host kept, once its order test answered 0
+abbrev pub UsableInOrder : Type 0
+UsableInOrder = (d : Dock) → WholeDock d → ((i : ℕ) → getD (d .image) i 0 < 256) → result d testing ≡ 0 → (cs : List Call) → Usable (leftByAll d cs)

@@ -5,13 +5,10 @@ ghost use lib.ListN.{length};
 ghost use Rattle.image.specs.Layout.{imageSize};
 ghost use Rattle.image.specs.Image.{decode};
 ghost use Rattle.image_pads.specs.Places.{numbersOf, placeIn, upOf, upsOf};
+use image_places::PAD;
+use image_places::PROGRAM;
 use tables::Kind;
 use tables::Ticket;
-
-// Places of a pad, and of a program.
-const PAD: usize = 64;
-
-const PROGRAM: usize = 8;
 
 // The number in each place of the pad, 0 where it is free.
 pub fn write_numbers(image: &[u8], pad: usize, to: &mut [u16])

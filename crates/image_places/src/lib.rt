@@ -12,6 +12,11 @@ ghost use Rattle.image_places.specs.Walk.{endFrom, leadsTo};
 use tables::Name;
 use tables::Ticket;
 
+// Places of a pad, and of a program.
+pub const PAD: usize = 64;
+
+pub const PROGRAM: usize = 8;
+
 // A place as an index.
 pub fn wide(x: u16) -> usize
     ensures { λ r. ⌜ r ≡ x ⌝ }

@@ -10,10 +10,8 @@ ghost use Rattle.image.specs.Layout.{imageSize};
 ghost use Rattle.image.specs.Image.{isImage};
 ghost use Rattle.image_read.specs.Places.{ticketsIn};
 ghost use Rattle.op_clear_tickets.specs.Cleared.{isMarked, Cleared};
+use image_places::PAD;
 use tables::Ticket;
-
-// Places of a pad.
-const PAD: usize = 64;
 
 // Is the ticket at the place marked, and live?
 fn is_marked(image: &[u8], place: usize, mark: u8) -> bool

@@ -15,13 +15,10 @@ ghost use Rattle.image_write.specs.Shows.{Holds};
 ghost use Rattle.op_drop_tickets.specs.Marks.{goes, underOn, markOf, marksOf};
 ghost use Rattle.op_drop_tickets.specs.Docked.{dockedBy, dockedWith, dockedOn, Heads};
 ghost use Rattle.op_drop_tickets.specs.Linked.{Linked};
+use image_places::PAD;
+use image_places::PROGRAM;
 use tables::Name;
 use tables::Ticket;
-
-// Places of a pad, and of a program.
-const PAD: usize = 64;
-
-const PROGRAM: usize = 8;
 
 // ---- what goes
 

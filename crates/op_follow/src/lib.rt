@@ -9,11 +9,9 @@ ghost use Rattle.image_write.specs.Shows.{Holds};
 ghost use Rattle.op_drop_entries.specs.Links.{LinkedEntries};
 ghost use Rattle.op_drop_tickets.specs.Linked.{Linked};
 ghost use Rattle.op_follow.specs.Lent.{isLending, lentBy, withoutLoan};
+use image_places::PAD;
 use tables::Name;
 use tables::Ticket;
-
-// Places of a pad.
-const PAD: usize = 64;
 
 // Is it marked, and a recall of another pad's ticket?
 fn is_lending(k: Ticket, pad: usize, mark: u8) -> bool
