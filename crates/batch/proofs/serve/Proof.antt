@@ -41,11 +41,16 @@ returns-2 c =
 
 serve-all-requires : tie.Need-serve-all-requires
 serve-all-requires c κs =
-    let a = c .before .before .before .before .before .before .before .before .before .before .before .before .before .before .args in
+    let c4 = c .before .before .before .before in
+    let c5 = c4 .before in
+    let c7 = c5 .before .before in
+    let c8 = c7 .before in
+    let c14 = c8 .before .before .before .before .before .before in
+    let a = c14 .args in
     let b = buffersOf (a .tables .now) (a .store .now) (a .sheets .now) (a .requests .now) (a .answers .now) in
-    let fits : buffersFit b ≡ true = passed (c .before .before .before .before .before .before .before .before .lengths-ok .ensures) (c .before .before .before .before .before .before .before .if1 .left) in (
-      is-image (a .tables .now) (c .before .before .before .before .before .image-in-order .ensures) (c .before .before .before .before .if2 .left),
-      (whole b fits, is-in-order (a .tables .now) (c .before .before .before .before .before .image-in-order .ensures) (c .before .before .before .before .if2 .left)),
+    let fits : buffersFit b ≡ true = passed (c8 .lengths-ok .ensures) (c7 .if1 .left) in (
+      is-image (a .tables .now) (c5 .image-in-order .ensures) (c4 .if2 .left),
+      (whole b fits, is-in-order (a .tables .now) (c5 .image-in-order .ensures) (c4 .if2 .left)),
     )
 
 same-length-2 : tie.Need-same-length-2
@@ -62,10 +67,16 @@ same-length-5 c = search needs
 
 returns-3 : tie.Need-returns-3
 returns-3 c =
-    let a = c .before .before .before .before .before .before .before .before .before .before .before .before .before .before .before .before .before .before .before .before .before .before .before .args in
+    let c8 = c .before .before .before .before .before .before .before .before in
+    let c13 = c8 .before .before .before .before .before in
+    let c14 = c13 .before in
+    let c16 = c14 .before .before in
+    let c17 = c16 .before in
+    let c23 = c17 .before .before .before .before .before .before in
+    let a = c23 .args in
     let b = buffersOf (a .tables .now) (a .store .now) (a .sheets .now) (a .requests .now) (a .answers .now) in
-    let fits : buffersFit b ≡ true = passed (c .before .before .before .before .before .before .before .before .before .before .before .before .before .before .before .before .before .lengths-ok .ensures) (c .before .before .before .before .before .before .before .before .before .before .before .before .before .before .before .before .if1 .left) in
-    leaves-0 b fits (tables-ok (a .tables .now) (c .before .before .before .before .before .before .before .before .before .before .before .before .before .before .image-in-order .ensures) (c .before .before .before .before .before .before .before .before .before .before .before .before .before .if2 .left)) _ _ _ _ (c .before .before .before .before .before .before .before .before .serve-all .ensures)
+    let fits : buffersFit b ≡ true = passed (c17 .lengths-ok .ensures) (c16 .if1 .left) in
+    leaves-0 b fits (tables-ok (a .tables .now) (c14 .image-in-order .ensures) (c13 .if2 .left)) _ _ _ _ (c8 .serve-all .ensures)
 
 pub serve-spec : {M : Type 1} → statement M
 serve-spec =

@@ -68,13 +68,16 @@ part-request-end c =
 
 request-requires : tie.Need-request-requires Inv-loop μ-loop
 request-requires c κs =
-    let so = c .before .before .before .before .before .before .loop .inv in
+    let c5 = c .before .before .before .before .before in
+    let c6 = c5 .before in
+    let c12 = c6 .before .before .before .before .before .before in
+    let so = c6 .loop .inv in
     record {
       is = still-image _ _ _ _ _ _ _ _ so;
       order = so .order;
       lengths = record {
         store = so .long;
-        sheet = simp (length-take, length-drop) (omega (arith, so .sheets .size, c .before .before .before .before .before .before .before .before .before .before .before .before .pre .1 .0 .sheets, c .before .before .before .before .before .loop-test .taken));
+        sheet = simp (length-take, length-drop) (omega (arith, so .sheets .size, c12 .pre .1 .0 .sheets, c5 .loop-test .taken));
       };
     }
 
@@ -122,14 +125,18 @@ loop-less c = search needs
 
 loop-again : tie.Need-loop-again Inv-loop μ-loop
 loop-again c =
-    let s = c .before .before .before .before .before .before .before .before .before .before .before .before .before .before .before .before .before .before .before .before .before .before .before in
-    let so = c .before .before .before .before .before .before .before .before .before .before .before .before .before .before .before .before .before .loop .inv in
-    let i = c .before .before .before .before .before .before .before .before .before .before .before .before .before .before .before .before .before .loop .i in
-    let more = c .before .before .before .before .before .before .before .before .before .before .before .before .before .before .before .before .loop-test .taken in
-    let served = c .before .before .before .before .before .before .before .before .before .before .request in
+    let c10 = c .before .before .before .before .before .before .before .before .before .before in
+    let c14 = c10 .before .before .before .before in
+    let c16 = c14 .before .before in
+    let c17 = c16 .before in
+    let s = c17 .before .before .before .before .before .before in
+    let so = c17 .loop .inv in
+    let i = c17 .loop .i in
+    let more = c16 .loop-test .taken in
+    let served = c10 .request in
     next _ _ _ _ _ _ _ _ so (64 * i + 64 - 64 * i) (omega arith)
     (simp (length-take, length-drop) (omega (arith, so .sheets .size, s .pre .1 .0 .sheets, more))) _
-    (c .before .before .before .before .before .before .before .before .before .before .before .before .before .before .request-in .ensures ∙ ap requestOf (rest-part (s .args .requests .now) (requestWidth * i))) (served .result) _ _ _ (served .ensures)
+    (c14 .request-in .ensures ∙ ap requestOf (rest-part (s .args .requests .now) (requestWidth * i))) (served .result) _ _ _ (served .ensures)
     (answerWidth * i + answerWidth - answerWidth * i) _ (served .kept .1 .0 ∙ so .long)
     (served .kept .1 .1 .0 ∙ simp (length-take, length-drop) (omega (arith, so .sheets .size, s .pre .1 .0 .sheets, more)))
     more (s .pre .1 .0 .sheets) (s .pre .1 .0 .answers) (omega arith)

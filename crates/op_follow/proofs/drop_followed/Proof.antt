@@ -37,10 +37,12 @@ same-length c = search needs
 
 returns : tie.Need-returns
 returns c =
-    let s = c .before .before .before .before .before .before .before .before .before .before .before .before .before .before .before .before .before in
+    let c8 = c .before .before .before .before .before .before .before .before in
+    let c13 = c8 .before .before .before .before .before in
+    let s = c13 .before .before .before .before in
     let a = s .args in
-    followed (a .image .now) _ _ _ (s .pre .1 .0) (a .also) (a .x) (s .pre .1 .1 .0 .0) (s .pre .1 .1 .0 .1) (c .before .before .before .before .before .before .before .before .before .before .before .before .before .mark-under .ensures) _ refl
-    (c .before .before .before .before .before .before .before .before .drop-lent .ensures) (c .before .before .clear-marked .ensures)
+    followed (a .image .now) _ _ _ (s .pre .1 .0) (a .also) (a .x) (s .pre .1 .1 .0 .0) (s .pre .1 .1 .0 .1) (c13 .mark-under .ensures) _ refl
+    (c8 .drop-lent .ensures) (c .before .before .clear-marked .ensures)
 
 pub drop-followed-spec : {M : Type 1} → statement M
 drop-followed-spec =

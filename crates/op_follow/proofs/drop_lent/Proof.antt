@@ -57,13 +57,18 @@ loop-less c = search needs
 
 loop-again : tie.Need-loop-again Inv-loop μ-loop
 loop-again c =
-    let s = c .before .before .before .before .before .before .before .before .before .before .before .before .before .before in
+    let c5 = c .before .before .before .before .before in
+    let c6 = c5 .before in
+    let c8 = c6 .before .before in
+    let c10 = c8 .before .before in
+    let c11 = c10 .before in
+    let s = c11 .before .before .before in
     let a = s .args in
-    let l = c .before .before .before .before .before .before .before .before .before .before .before .loop in
-    let here = c .before .before .before .before .before .before .before .before .ticket-at .ensures ∙ flattened (l .image) .same (64 * a .pad + l .i) (omega (arith, s .pre .1 .0, c .before .before .before .before .before .before .before .before .before .before .loop-test .taken)) in (
-      omega (arith, c .before .before .before .before .before .before .before .before .before .before .loop-test .taken),
+    let l = c11 .loop in
+    let here = c8 .ticket-at .ensures ∙ flattened (l .image) .same (64 * a .pad + l .i) (omega (arith, s .pre .1 .0, c10 .loop-test .taken)) in (
+      omega (arith, c10 .loop-test .taken),
       turned (decode (a .image .now)) (s .pre .1 .1 .1) (a .pad) (a .marks .now) (l .i) (decode (l .image)) (l .inv .1 .tables) _ here
-          (sym (c .before .before .before .before .before .before .is-lending .ensures) ∙ c .before .before .before .before .before .if1 .taken) (c .before .before .drop-below .ensures),
+          (sym (c6 .is-lending .ensures) ∙ c5 .if1 .taken) (c .before .before .drop-below .ensures),
     )
 
 loop-less-2 : tie.Need-loop-less-2 Inv-loop μ-loop
@@ -71,11 +76,14 @@ loop-less-2 c = search needs
 
 loop-again-2 : tie.Need-loop-again-2 Inv-loop μ-loop
 loop-again-2 c =
-    let s = c .before .before .before .before .before .before .before .before .before in
+    let c3 = c .before .before .before in
+    let c5 = c3 .before .before in
+    let c6 = c5 .before in
+    let s = c6 .before .before .before in
     let a = s .args in
-    let l = c .before .before .before .before .before .before .loop in
-    let here = c .before .before .before .ticket-at .ensures ∙ flattened (l .image) .same (64 * a .pad + l .i) (omega (arith, s .pre .1 .0, c .before .before .before .before .before .loop-test .taken)) in (
-      omega (arith, c .before .before .before .before .before .loop-test .taken),
+    let l = c6 .loop in
+    let here = c3 .ticket-at .ensures ∙ flattened (l .image) .same (64 * a .pad + l .i) (omega (arith, s .pre .1 .0, c5 .loop-test .taken)) in (
+      omega (arith, c5 .loop-test .taken),
       passed (decode (a .image .now)) (s .pre .1 .1 .1) (a .pad) (a .marks .now) (l .i) (decode (l .image)) (l .inv .1 .tables) _ here
           (sym (c .before .is-lending .ensures) ∙ c .if1 .left) (l .inv .1 .is) refl,
     )
@@ -87,8 +95,8 @@ same-length c =
 
 returns : tie.Need-returns Inv-loop μ-loop
 returns c =
-    let l = c .before .loop in
     let s = c .before .before .before .before in
+    let l = c .before .loop in
     let e : l .i ≡ 64 = omega (arith, l .inv .0, c .loop-test .left) in
     record {
       is = l .inv .1 .is;

@@ -22,9 +22,10 @@ same-length c = search needs
 
 returns : tie.Need-returns
 returns c =
-    let s = c .before .before .before .before .before .before in
+    let c3 = c .before .before .before in
+    let s = c3 .before .before .before in
     λ store sheet. stays (s .pre .0) (c .plain .ensures)
-    (refused (decode (s .args .image .now)) store sheet (s .args .r) (s .pre .1 .1) (c .before .before .before .allowed .ensures .result) (c .before .if1 .taken))
+    (refused (decode (s .args .image .now)) store sheet (s .args .r) (s .pre .1 .1) (c3 .allowed .ensures .result) (c .before .if1 .taken))
 
 asked-name-requires : tie.Need-asked-name-requires
 asked-name-requires c κs = search needs
@@ -44,12 +45,17 @@ same-length-2 c = search needs
 
 returns-2 : tie.Need-returns-2
 returns-2 c =
-    let s = c .before .before .before .before .before .before .before .before .before .before .before .before .before .before .before .before in
+    let c3 = c .before .before .before in
+    let c5 = c3 .before .before in
+    let c10 = c5 .before .before .before .before .before in
+    let c11 = c10 .before in
+    let c13 = c11 .before .before in
+    let s = c13 .before .before .before in
     let t = decode (s .args .image .now) in
     let r = s .args .r in
-    let d = c .before .before .before .before .before .before .before .before .before .before .before .before .before .allowed .ensures in
-    λ store sheet. leaves (c .before .before .before .drop-followed .ensures) (c .plain2 .ensures)
-    (recalled t store sheet r (s .pre .1 .1) (sym (d .result) ∙ c .before .before .before .before .before .before .before .before .before .before .before .if1 .left) (recalled-near t r _ (d .ticket) (c .before .before .before .before .before .if2 .taken) _ (c .before .before .before .before .before .before .before .before .before .before .asked-name .ensures)))
+    let d = c13 .allowed .ensures in
+    λ store sheet. leaves (c3 .drop-followed .ensures) (c .plain2 .ensures)
+    (recalled t store sheet r (s .pre .1 .1) (sym (d .result) ∙ c11 .if1 .left) (recalled-near t r _ (d .ticket) (c5 .if2 .taken) _ (c10 .asked-name .ensures)))
 
 drop-one-requires : tie.Need-drop-one-requires
 drop-one-requires c κs =
@@ -60,8 +66,9 @@ drop-one-requires c κs =
 
 drop-below-requires : tie.Need-drop-below-requires
 drop-below-requires c κs =
-    let s = c .before .before .before .before .before .before .before .before .before .before .before .before .before .before .before .before in
-    (c .before .before .before .drop-one .ensures .is, entries-kept _ (decode (s .args .image .now)) _ (c .before .before .before .drop-one .ensures .tables) (s .pre .1 .0 .entries))
+    let c3 = c .before .before .before in
+    let s = c3 .before .before .before .before .before .before .before .before .before .before .before .before .before in
+    (c3 .drop-one .ensures .is, entries-kept _ (decode (s .args .image .now)) _ (c3 .drop-one .ensures .tables) (s .pre .1 .0 .entries))
 
 plain-requires-3 : tie.Need-plain-requires-3
 plain-requires-3 c κs = search needs
@@ -71,13 +78,19 @@ same-length-3 c = search needs
 
 returns-3 : tie.Need-returns-3
 returns-3 c =
-    let s = c .before .before .before .before .before .before .before .before .before .before .before .before .before .before .before .before .before .before .before .before in
+    let c3 = c .before .before .before in
+    let c7 = c3 .before .before .before .before in
+    let c9 = c7 .before .before in
+    let c14 = c9 .before .before .before .before .before in
+    let c15 = c14 .before in
+    let c17 = c15 .before .before in
+    let s = c17 .before .before .before in
     let t = decode (s .args .image .now) in
     let r = s .args .r in
-    let d = c .before .before .before .before .before .before .before .before .before .before .before .before .before .before .before .before .before .allowed .ensures in
-    λ store sheet. leaves (c .before .before .before .drop-below .ensures) (c .plain3 .ensures)
-    (recalled t store sheet r (s .pre .1 .1) (sym (d .result) ∙ c .before .before .before .before .before .before .before .before .before .before .before .before .before .before .before .if1 .left)
-    (recalled-far t r _ (d .ticket) (c .before .before .before .before .before .before .before .before .before .if2 .left) _ (c .before .before .before .before .before .before .before .before .before .before .before .before .before .before .asked-name .ensures) _ (c .before .before .before .before .before .before .before .drop-one .ensures .tables)))
+    let d = c17 .allowed .ensures in
+    λ store sheet. leaves (c3 .drop-below .ensures) (c .plain3 .ensures)
+    (recalled t store sheet r (s .pre .1 .1) (sym (d .result) ∙ c15 .if1 .left)
+    (recalled-far t r _ (d .ticket) (c9 .if2 .left) _ (c14 .asked-name .ensures) _ (c7 .drop-one .ensures .tables)))
 
 pub recall-spec : {M : Type 1} → statement M
 recall-spec =

@@ -100,9 +100,11 @@ slice-aggregate-entries-ok-4 c = search needs
 
 entries-ok-requires : tie.Need-entries-ok-requires
 entries-ok-requires c κs =
-    let programs = c .before .before .before .before .before .before .before .before .before .before .before .before .before .before .programs-ok in
-    let s = c .before .before .before .before .before .before .before .before .before .before .before .before .before .before .before .before .before .before .before .before in
-    let x = programs .ensures .1 (not-false _ (c .before .before .before .before .before .before .before .before .if1 .left)) in (
+    let c8 = c .before .before .before .before .before .before .before .before in
+    let c14 = c8 .before .before .before .before .before .before in
+    let s = c14 .before .before .before .before .before .before in
+    let programs = c14 .programs-ok in
+    let x = programs .ensures .1 (not-false _ (c8 .if1 .left)) in (
       s .pre,
       (
         omega (arith, programs .kept .1 .0),
@@ -116,14 +118,17 @@ entries-ok-requires c κs =
 
 returns-3 : tie.Need-returns-3
 returns-3 c =
-    let programs = c .before .before .before .before .before .before .before .before .before .before .before .before .before .before .before .before .before .before .before .programs-ok in
-    let s = c .before .before .before .before .before .before .before .before .before .before .before .before .before .before .before .before .before .before .before .before .before .before .before .before .before in
+    let c4 = c .before .before .before .before in
+    let c13 = c4 .before .before .before .before .before .before .before .before .before in
+    let c19 = c13 .before .before .before .before .before .before in
+    let s = c19 .before .before .before .before .before .before in
+    let programs = c19 .programs-ok in
     let image = s .args .image .now in
-    let good = not-false _ (c .before .before .before .before .before .before .before .before .before .before .before .before .before .if1 .left) in
+    let good = not-false _ (c13 .if1 .left) in
     let p = sym (programs .ensures .0 (decode image) (decoded-sized image) (flattened image)) ∙ good in
     let ix = numbered (decode image) (decoded-sized image) (rule-1 (decode image) (rules image (s .pre) (decode image) p)) _ _ (flattened image) _
     (programs .ensures .1 good .written) in
-    let e = c .before .before .before .before .entries-ok .ensures .0 (decode image) (flattened image) (entries-decoded image) ix (rule-2 (decode image) (rules image (s .pre) (decode image) p)) in
+    let e = c4 .entries-ok .ensures .0 (decode image) (flattened image) (entries-decoded image) ix (rule-2 (decode image) (rules image (s .pre) (decode image) p)) in
     entries-broken image (s .pre) (decode image) (failed (e .same) (c .if3 .taken))
 
 slice-aggregate-recalls-ok : tie.Need-slice-aggregate-recalls-ok
@@ -134,29 +139,39 @@ slice-aggregate-recalls-ok-2 c = search needs
 
 array-share-prefix-children-2 : tie.Need-array-share-prefix-children-2
 array-share-prefix-children-2 c =
-    let x = c .before .before .before .before .before .before .before .before .before .before .before .before .before .before .before .before .before .before .before .before .before .programs-ok .ensures .1 (not-false _ (c .before .before .before .before .before .before .before .before .before .before .before .before .before .before .before .if1 .left)) in
+    let c15 = c .before .before .before .before .before .before .before .before .before .before .before .before .before .before .before in
+    let c21 = c15 .before .before .before .before .before .before in
+    let x = c21 .programs-ok .ensures .1 (not-false _ (c15 .if1 .left)) in
     omega (arith, x .childrenListed .most)
 
 slice-aggregate-recalls-ok-3 : tie.Need-slice-aggregate-recalls-ok-3
 slice-aggregate-recalls-ok-3 c =
-    let programs = c .before .before .before .before .before .before .before .before .before .before .before .before .before .before .before .before .before .before .before .before .before .before .programs-ok in
-    let x = programs .ensures .1 (not-false _ (c .before .before .before .before .before .before .before .before .before .before .before .before .before .before .before .before .if1 .left)) in
+    let c16 = c .before .before .before .before .before .before .before .before .before .before .before .before .before .before .before .before in
+    let c22 = c16 .before .before .before .before .before .before in
+    let programs = c22 .programs-ok in
+    let x = programs .ensures .1 (not-false _ (c16 .if1 .left)) in
     sym (length-take-le (programs .result .children) (programs .last .1 .1 .1 .0) (omega (arith, x .childrenListed .most, programs .kept .1 .1 .1 .0)))
 
 array-share-prefix-recalls : tie.Need-array-share-prefix-recalls
 array-share-prefix-recalls c =
-    let x = c .before .before .before .before .before .before .before .before .before .before .before .before .before .before .before .before .before .before .before .before .before .before .programs-ok .ensures .1 (not-false _ (c .before .before .before .before .before .before .before .before .before .before .before .before .before .before .before .before .if1 .left)) in
+    let c16 = c .before .before .before .before .before .before .before .before .before .before .before .before .before .before .before .before in
+    let c22 = c16 .before .before .before .before .before .before in
+    let x = c22 .programs-ok .ensures .1 (not-false _ (c16 .if1 .left)) in
     omega (arith, x .recallsListed .most)
 
 slice-aggregate-recalls-ok-4 : tie.Need-slice-aggregate-recalls-ok-4
 slice-aggregate-recalls-ok-4 c =
-    let programs = c .before .before .before .before .before .before .before .before .before .before .before .before .before .before .before .before .before .before .before .before .before .before .before .programs-ok in
-    let x = programs .ensures .1 (not-false _ (c .before .before .before .before .before .before .before .before .before .before .before .before .before .before .before .before .before .if1 .left)) in
+    let c17 = c .before .before .before .before .before .before .before .before .before .before .before .before .before .before .before .before .before in
+    let c23 = c17 .before .before .before .before .before .before in
+    let programs = c23 .programs-ok in
+    let x = programs .ensures .1 (not-false _ (c17 .if1 .left)) in
     sym (length-take-le (programs .result .recalls) (programs .last .1 .1 .1 .1 .0) (omega (arith, x .recallsListed .most, programs .kept .1 .1 .1 .1 .0)))
 
 array-share-prefix-received : tie.Need-array-share-prefix-received
 array-share-prefix-received c =
-    let grants = c .before .before .before .before .before .before .before .before .entries-ok .ensures .1 (not-false _ (c .before .before .before .before .if3 .left)) in
+    let c4 = c .before .before .before .before in
+    let c8 = c4 .before .before .before .before in
+    let grants = c8 .entries-ok .ensures .1 (not-false _ (c4 .if3 .left)) in
     omega (arith, grants .most)
 
 slice-aggregate-recalls-ok-5 : tie.Need-slice-aggregate-recalls-ok-5
@@ -167,15 +182,19 @@ slice-aggregate-recalls-ok-5 c =
 
 recalls-ok-requires : tie.Need-recalls-ok-requires
 recalls-ok-requires c κs =
-    let programs = c .before .before .before .before .before .before .before .before .before .before .before .before .before .before .before .before .before .before .before .before .before .before .before .before .programs-ok in
-    let entries = c .before .before .before .before .before .before .before .before .before .entries-ok in
-    let s = c .before .before .before .before .before .before .before .before .before .before .before .before .before .before .before .before .before .before .before .before .before .before .before .before .before .before .before .before .before .before in
+    let c5 = c .before .before .before .before .before in
+    let c9 = c5 .before .before .before .before in
+    let c18 = c9 .before .before .before .before .before .before .before .before .before in
+    let c24 = c18 .before .before .before .before .before .before in
+    let s = c24 .before .before .before .before .before .before in
+    let programs = c24 .programs-ok in
+    let entries = c9 .entries-ok in
     let image = s .args .image .now in
-    let good = not-false _ (c .before .before .before .before .before .before .before .before .before .before .before .before .before .before .before .before .before .before .if1 .left) in
+    let good = not-false _ (c18 .if1 .left) in
     let x = programs .ensures .1 good in
     let p = sym (programs .ensures .0 (decode image) (decoded-sized image) (flattened image)) ∙ good in
     let ix = numbered (decode image) (decoded-sized image) (rule-1 (decode image) (rules image (s .pre) (decode image) p)) _ _ (flattened image) _ (x .written) in
-    let y = not-false _ (c .before .before .before .before .before .if3 .left) in
+    let y = not-false _ (c5 .if3 .left) in
     let e = entries .ensures .0 (decode image) (flattened image) (entries-decoded image) ix (rule-2 (decode image) (rules image (s .pre) (decode image) p)) in
     let under = listed-front _ _ _ _ _ _ (x .childrenListed) (omega (arith, x .childrenListed .most, programs .kept .1 .1 .1 .0)) in
     let back = listed-front _ _ _ _ _ _ (x .recallsListed) (omega (arith, x .recallsListed .most, programs .kept .1 .1 .1 .1 .0)) in
@@ -185,16 +204,22 @@ recalls-ok-requires c κs =
 
 returns-4 : tie.Need-returns-4
 returns-4 c =
-    let programs = c .before .before .before .before .before .before .before .before .before .before .before .before .before .before .before .before .before .before .before .before .before .before .before .before .before .programs-ok in
-    let s = c .before .before .before .before .before .before .before .before .before .before .before .before .before .before .before .before .before .before .before .before .before .before .before .before .before .before .before .before .before .before .before in
+    let c6 = c .before .before .before .before .before .before in
+    let c10 = c6 .before .before .before .before in
+    let c15 = c10 .before .before .before .before .before in
+    let c16 = c15 .before in
+    let c19 = c16 .before .before .before in
+    let c25 = c19 .before .before .before .before .before .before in
+    let s = c25 .before .before .before .before .before .before in
+    let programs = c25 .programs-ok in
     let image = s .args .image .now in
-    let good = not-false _ (c .before .before .before .before .before .before .before .before .before .before .before .before .before .before .before .before .before .before .before .if1 .left) in
+    let good = not-false _ (c19 .if1 .left) in
     let p = sym (programs .ensures .0 (decode image) (decoded-sized image) (flattened image)) ∙ good in
     let ix = numbered (decode image) (decoded-sized image) (rule-1 (decode image) (rules image (s .pre) (decode image) p)) _ _ (flattened image) _
     (programs .ensures .1 good .written) in
-    let h = passed (c .before .before .before .before .before .before .before .before .before .before .before .before .before .before .before .before .chains-ok .ensures (decode image) (flattened image) ix) (c .before .before .before .before .before .before .before .before .before .before .before .before .before .before .before .if2 .left) in
-    let e = c .before .before .before .before .before .before .before .before .before .before .entries-ok .ensures .0 (decode image) (flattened image) (entries-decoded image) ix (rule-2 (decode image) (rules image (s .pre) (decode image) p)) in
-    let y = not-false _ (c .before .before .before .before .before .before .if3 .left) in
+    let h = passed (c16 .chains-ok .ensures (decode image) (flattened image) ix) (c15 .if2 .left) in
+    let e = c10 .entries-ok .ensures .0 (decode image) (flattened image) (entries-decoded image) ix (rule-2 (decode image) (rules image (s .pre) (decode image) p)) in
+    let y = not-false _ (c6 .if3 .left) in
     c .recalls-ok .ensures (decode image) (record { flat = flattened image; entries = entries-decoded image; numbered = ix; noted = e .noted y })
     ∙ last-rule image (s .pre) (decode image) p h (sym (e .same) ∙ y)
 
