@@ -1,6 +1,6 @@
 -- Laws of lists made of elements or parts: their lengths, what stands at each place, and what a loop that writes one after the other has
 -- after some turns.
-use Prim.Native.Nat.{ℕ, zero, suc, _+_, _*_, _≤_, _<_}
+use Prim.Native.Nat.{ℕ, zero, suc, _+_, _-_, _*_, _/_, _%_, _≤_, _<_}
 use native.Mathlib.Nat.{mul-zero, mul-suc}
 use native.Mathlib.Omega.{arith}
 use mathlib.Core.Path.{_≡_, refl, sym, ap, subst, _∙_}
@@ -106,6 +106,38 @@ module _ {A : Type 0} (w : ℕ) where
     joined-cut zero l cut = rw mul-zero
     joined-cut (suc n) l cut =
         (λ i. joined-cut n l (λ j h. cut j (omega arith)) i ++ cut n (omega arith) i) ∙ sym (take-add (w * n) w l) ∙ ap (λ (m : ℕ). take m l) (sym (mul-suc w n))
+
+-- ---- parts of any width
+module _ {A : Type 0} where
+  joined-same : (n : ℕ) (f g : ℕ → List A) → ((i : ℕ) → i < n → f i ≡ g i) → joined n f ≡ joined n g
+  unfolding joined
+  joined-same zero f g same = refl
+  joined-same (suc n) f g same = (λ i. joined-same n f g (λ j h. same j (omega arith)) i ++ same n (omega arith) i)
+
+  pub joined-add : (m n : ℕ) (part : ℕ → List A) → joined (m + n) part ≡ joined m part ++ joined n (λ i. part (m + i))
+  unfolding joined
+  joined-add m zero part = let z : m + 0 ≡ m = omega arith in ap (λ (k : ℕ). joined k part) z ∙ sym (append-nil (joined m part))
+  joined-add m (suc n) part =
+      let z : m + suc n ≡ suc (m + n) = omega arith in
+      ap (λ (k : ℕ). joined k part) z ∙ ap (λ (l : List A). l ++ part (m + n)) (joined-add m n part)
+      ∙ append-assoc (joined m part) (joined n (λ i. part (m + i))) (part (m + n))
+
+  -- the first m of n
+  pub joined-front : (m n : ℕ) (part : ℕ → List A) → m ≤ n → Begins (joined m part) (joined n part)
+  joined-front m n part h =
+      let z : m + (n - m) ≡ n = omega arith in
+      record { rest = joined (n - m) (λ i. part (m + i)); same = ap (λ (k : ℕ). joined k part) (sym z) ∙ joined-add m (n - m) part }
+
+  -- eight in each, counted through
+  pub joined-eights : (n : ℕ) (part : ℕ → ℕ → List A) → joined n (λ a. joined 8 (part a)) ≡ joined (8 * n) (λ p. part (p / 8) (p % 8))
+  unfolding joined
+  joined-eights zero part = refl
+  joined-eights (suc n) part =
+      let z : 8 * suc n ≡ 8 * n + 8 = omega arith in
+      let through : (i : ℕ) → i < 8 → part n i ≡ part ((8 * n + i) / 8) ((8 * n + i) % 8)
+      = λ i h. (let a : (8 * n + i) / 8 ≡ n = omega arith in let b : (8 * n + i) % 8 ≡ i = omega arith in rw (a, b) refl) in
+      (λ i. joined-eights n part i ++ joined-same 8 (part n) (λ i. part ((8 * n + i) / 8) ((8 * n + i) % 8)) through i)
+      ∙ sym (joined-add (8 * n) 8 (λ p. part (p / 8) (p % 8))) ∙ ap (λ (k : ℕ). joined k (λ p. part (p / 8) (p % 8))) (sym z)
 
 -- ---- parts written one behind the other over a list, i of them so far
 pub record Written {A : Type 0} (w : ℕ) (part : ℕ → List A) (before : List A) (i : ℕ) (now : List A) : Type 0 where

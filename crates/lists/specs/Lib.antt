@@ -1,3 +1,4 @@
 pub mod Tests
 pub mod Lists
 pub mod Parts
+pub mod Members

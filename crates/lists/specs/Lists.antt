@@ -1,6 +1,6 @@
--- The definitions on lists that the rules use: the first element that passes a test, all, some, no two, a change at every
--- place, the least number that passes. A `let` is computed only where it is asked for: so a search stops where it succeeds.
-use Prim.Native.Nat.{ℕ, zero, suc}
+-- The definitions on lists that the rules use: the first element that passes a test, all, some, those that pass, no two, a change at
+-- every place, the least number that passes, how many pass, sums. A `let` is computed only where it is asked for: so a search stops where it succeeds.
+use Prim.Native.Nat.{ℕ, zero, suc, _+_}
 use mathlib.Core.Bool.{Bool, true, false, not, _&&_, _||_, cond}
 use mathlib.Core.List.{List, [], _∷_}
 use Rattle.lists.specs.Tests.{implies}
@@ -20,6 +20,16 @@ module _ {A : Type 0} where
   unfoldable pub some : (A → Bool) → List A → Bool
   some test [] = false
   some test (x ∷ xs) = let rest = some test xs in test x || rest
+
+  -- the elements that pass, in their order
+  unfoldable pub keep : (A → Bool) → List A → List A
+  keep test [] = []
+  keep test (x ∷ xs) = let rest = keep test xs in cond (test x) (x ∷ rest) rest
+
+  -- the sum of a number of each
+  unfoldable pub total : (A → ℕ) → List A → ℕ
+  total f [] = 0
+  total f (x ∷ xs) = f x + total f xs
 
   -- no two of the elements that count, in different places, are alike
   unfoldable pub noTwo : (A → Bool) → (A → A → Bool) → List A → Bool
@@ -48,3 +58,8 @@ module _ {A : Type 0} where
 unfoldable pub least : (ℕ → Bool) → ℕ → ℕ → ℕ
 least test zero start = start
 least test (suc steps) start = let later = least test steps (suc start) in cond (test start) start later
+
+-- how many of the numbers below n pass
+unfoldable pub countBelow : ℕ → (ℕ → Bool) → ℕ
+countBelow zero test = 0
+countBelow (suc n) test = countBelow n test + cond (test n) 1 0

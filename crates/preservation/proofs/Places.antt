@@ -16,7 +16,7 @@ use Rattle.lists.proofs.Keyed.{found-low}
 use Rattle.lists.proofs.Pigeonhole.{none-left-out}
 use Rattle.tables.specs.declared.{Name.Name, Ticket.Ticket, Entry.Entry, Tables.Tables}
 use Rattle.tables.specs.Names.{isNone, free, noEntry}
-use Rattle.tables.specs.Lookup.{ticketsOf, lastOf, hasNumber, ticketIn, lookup, isNamed, entryIn, entryOf}
+use Rattle.tables.specs.Lookup.{ticketsOf, lastOf, hasNumber, ticketIn, lookup, placeOf, isNamed, entryIn, entryOf}
 use Rattle.tables.specs.Chains.{parentOf, entryParent}
 use Rattle.tables.specs.Change.{isFree, hasPlace, isSpare}
 use Rattle.tables.proofs.KindLaws.{live-head, has-parent}
@@ -38,9 +38,6 @@ module _ (t : Tables) (ok : InOrder t) where
   placeOnPad : Name → ℕ
   placeOnPad n = 8 * n .program + placeIn n
 
-  placeOfAll : Name → ℕ
-  placeOfAll n = 64 * n .pad + placeOnPad n
-
   ticket-at-place : (n : Name) → lookup t n ≡ ticketAt t (n .pad) (n .program) (placeIn n)
   unfolding lookup ticketIn
   ticket-at-place n = refl
@@ -58,9 +55,12 @@ module _ (t : Tables) (ok : InOrder t) where
     unfolding placeOnPad
     pad-low = omega (arith, below-8, given .program)
 
-    all-low : placeOfAll n < 256
-    unfolding placeOfAll
-    all-low = omega (arith, pad-low, given .pad)
+    place-of : placeOf t n ≡ 64 * n .pad + placeOnPad n
+    unfolding placeOf placeOnPad
+    place-of = rw l (omega arith)
+
+    pub all-low : placeOf t n < 256
+    all-low = omega (arith, place-of, pad-low, given .pad)
 
   -- two live tickets in one place are one
   module _ (n m : Name) (l : isLive (lookup t n .kind) ≡ true) (k : isLive (lookup t m .kind) ≡ true) where
@@ -75,9 +75,10 @@ module _ (t : Tables) (ok : InOrder t) where
     unfolding placeOnPad
     pad-once p e = place-once p (omega (arith, e, below-8 n l, below-8 m k)) (omega (arith, e, below-8 n l, below-8 m k))
 
-    all-once : placeOfAll n ≡ placeOfAll m → n ≡ m
-    unfolding placeOfAll
-    all-once e = pad-once (omega (arith, e, pad-low n l, pad-low m k)) (omega (arith, e, pad-low n l, pad-low m k))
+    pub all-once : placeOf t n ≡ placeOf t m → n ≡ m
+    all-once e =
+        let on-pad : n .pad ≡ m .pad = omega (arith, e, place-of n l, place-of m k, pad-low n l, pad-low m k) in
+        pad-once on-pad (omega (arith, e, on-pad, place-of n l, place-of m k))
 
   -- ---- chains on a pad
   pub parent-pad : (n : Name) → isNone (parentOf (lookup t) n) ≡ false → parentOf (lookup t) n .pad ≡ n .pad
@@ -142,9 +143,10 @@ module _ (t : Tables) (ok : InOrder t) where
     abbrev freeOfAll : ℕ
     freeOfAll = 64 * p + 8 * q + freePlace
 
-    not-free : (n : Name) → isLive (lookup t n .kind) ≡ true → placeOfAll n ≡ freeOfAll → ⊥
-    unfolding placeOfAll placeOnPad isFree
-    not-free n l e =
+    not-free : (n : Name) → isLive (lookup t n .kind) ≡ true → placeOf t n ≡ freeOfAll → ⊥
+    unfolding placeOnPad isFree
+    not-free n l there =
+        let e : 64 * n .pad + (8 * n .program + placeIn n) ≡ freeOfAll = sym (place-of n l) ∙ there in
         let a : n .pad ≡ p = omega (arith, e, below-8 n l, given n l .program, free-below-8) in
         let b : n .program ≡ q = omega (arith, e, below-8 n l, given n l .program, free-below-8) in
         let c : placeIn n ≡ freePlace = omega (arith, e, below-8 n l, given n l .program, free-below-8) in
@@ -154,14 +156,14 @@ module _ (t : Tables) (ok : InOrder t) where
         let g : not (isLive (lookup t n .kind)) ≡ true = rw s f in
         contradiction l (not-true (isLive (lookup t n .kind)) g)
 
-    one : (i j : ℕ) → i < 256 → j < 256 → placeOfAll (entryAt t i .name) ≡ placeOfAll (entryAt t j .name) → i ≡ j
+    one : (i j : ℕ) → i < 256 → j < 256 → placeOf t (entryAt t i .name) ≡ placeOf t (entryAt t j .name) → i ≡ j
     one i j h k e =
         ok .shape .distinctEntries i j (rw (ok .shape .sized .entries) h) (rw (ok .shape .sized .entries) k) (all-live i h) (all-live j k)
         (all-once (entryAt t i .name) (entryAt t j .name) (grant-live i h) (grant-live j k) e)
 
     impossible : ⊥
     impossible =
-        none-left-out 256 (λ i. placeOfAll (entryAt t i .name)) (λ i h. all-low (entryAt t i .name) (grant-live i h)) one freeOfAll
+        none-left-out 256 (λ i. placeOf t (entryAt t i .name)) (λ i h. all-low (entryAt t i .name) (grant-live i h)) one freeOfAll
         (omega (arith, free-below-8)) (λ i h. not-free (entryAt t i .name) (grant-live i h))
 
   -- no refusal is needed for a full table of entries

@@ -9,3 +9,4 @@ pub mod Building
 pub mod OrderCases
 pub mod Programs
 pub mod FreePlaces
+pub mod ByNumber

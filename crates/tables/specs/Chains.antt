@@ -3,8 +3,10 @@
 -- places left: 64 on a pad, 256 in the dock. In tables in order that is more than a chain has.
 use Prim.Native.Nat.{ℕ, zero, suc}
 use mathlib.Core.Bool.{Bool, false, not, _&&_, _||_, cond}
+use lib.Dec.{eqb}
 use Rattle.tables.specs.declared.{Name.Name, Kind.Kind, Ticket.Ticket, Entry.Entry, Tables.Tables}
 use Rattle.tables.specs.declared.Kind.the-variants.{Free, Taken, Received, Child, Recall}
+use Rattle.tables.specs.Kinds.{isRecall}
 use Rattle.tables.specs.Names.{nameOf, noName, isNone, eqName}
 use Rattle.tables.specs.Lookup.{lookup, entryOf}
 
@@ -26,6 +28,10 @@ endOf (suc left) parent n =
 -- the grant that a recall stands under: it is of the same program
 abbrev pub ownName : Name → Ticket → Name
 ownName n k = nameOf (n .pad) (n .program) (k .own)
+
+-- a recall that stands under the grant of that number
+unfoldable pub isRecallOf : ℕ → Ticket → Bool
+isRecallOf own k = isRecall (k .kind) && eqb (k .own) own
 
 abbrev pub parentBy : Kind → Name → Ticket → Name
 parentBy Free n k = noName

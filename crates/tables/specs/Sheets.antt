@@ -4,7 +4,7 @@ use Prim.Native.Nat.{ℕ, _+_}
 use mathlib.Core.Bool.{Bool, not, _&&_, _||_}
 use mathlib.Core.List.{List}
 use lib.Dec.{leb, ltb}
-use Rattle.lists.specs.Lists.{all, least}
+use Rattle.lists.specs.Lists.{all, least, countBelow}
 use Rattle.rights.specs.declared.Rights.{Rights}
 use Rattle.rights.specs.Rules.{within}
 use Rattle.tables.specs.declared.Entry.{Entry}
@@ -33,3 +33,11 @@ lowestRun entries count = least (isFreeRun entries count) 256 0
 -- there is such a run
 unfoldable pub hasRun : List Entry → ℕ → Bool
 hasRun entries count = ltb (lowestRun entries count) 256
+
+-- the sheet lies outside all entries
+unfoldable pub isFreeSheet : List Entry → ℕ → Bool
+isFreeSheet entries sheet = all (outside sheet 1) entries
+
+-- how many such sheets the store has, counted sheet by sheet
+unfoldable pub sheetsFree : List Entry → ℕ
+sheetsFree entries = countBelow 256 (isFreeSheet entries)

@@ -73,6 +73,16 @@ module _ (n : ℕ) where
       go (fail a) (fail b) (fail c) (pass d) = rw (a, b, c, d) (omega arith)
       go (fail a) (fail b) (fail c) (fail d) = rw (a, b, c, d) (omega arith)
 
+  -- a number of at most three digits
+  pub places-short : n < 1000 → places n ≤ 3
+  unfolding places
+  places-short h = go (case (ltb n 10)) (case (ltb n 100))
+    where
+      go : Case (ltb n 10) → Case (ltb n 100) → places n ≤ 3
+      go (pass a) _ = rw a (omega arith)
+      go (fail a) (pass b) = rw (a, b) (omega arith)
+      go (fail a) (fail b) = rw (a, b, lt-ltb n 1000 h) (omega arith)
+
 -- ---- digits
 pub length-digits : (count n : ℕ) → length (digits count n) ≡ count
 unfolding digits
