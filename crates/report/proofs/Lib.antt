@@ -1,0 +1,11 @@
+pub mod WholeReports
+pub mod TakenGrants
+pub mod Runs
+pub mod AllSheets
+pub mod Lending
+pub mod Depth
+pub mod Printed
+pub mod Marked
+pub mod WhoCanRead
+pub mod Short
+pub mod Targets

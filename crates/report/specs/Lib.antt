@@ -1,0 +1,4 @@
+pub mod Rows
+pub mod Report
+pub mod Complete
+pub mod Marked
