@@ -1,2 +1,2 @@
 pub mod Laws
-mod Steps
+pub mod Steps

@@ -1,18 +1,18 @@
 -- The searches among a program's eight places and among all entries of an image, as far as the code has come.
 use Prim.Native.Nat.{ℕ, _+_, _*_, _/_, _%_, _≤_, _<_}
 use native.Mathlib.Omega.{arith}
-use mathlib.Core.Path.{_≡_, sym, ap, _∙_}
+use mathlib.Core.Path.{_≡_, refl, sym, ap, _∙_}
 use mathlib.Core.Bool.{true, false, not}
 use mathlib.Core.List.{List}
 use lib.ListN.{length, getD, drop, List·getD-eq-default}
 use Rattle.lists.specs.Lists.{firstIndex}
-use Rattle.lists.proofs.Tests.{cannot-pass}
+use Rattle.lists.proofs.Tests.{cannot-pass, and-l}
 use Rattle.lists.proofs.Loops.{first-hit, first-miss, first-end}
 use Rattle.lists.proofs.Keyed.{nothing-found}
 use Rattle.tables.specs.declared.{Name.Name, Ticket.Ticket, Entry.Entry}
 use Rattle.tables.specs.Kinds.{isLive}
 use Rattle.tables.specs.Names.{free, noEntry}
-use Rattle.tables.specs.Lookup.{ticketsOf, hasNumber, ticketIn, lookup, isNamed, entryIn, entryOf}
+use Rattle.tables.specs.Lookup.{ticketsOf, hasNumber, ticketIn, lookup, placeOf, isNamed, entryIn, entryOf}
 use Rattle.tables.specs.Change.{isFree, isSpare}
 use Rattle.tables.proofs.Keys.{ticketKeys, ticketLaws}
 use Rattle.tables.proofs.ByPlace.{name-in-range}
@@ -30,6 +30,11 @@ module _ (bytes : List ℕ) (n : Name) where
 
   pub no-pad : 3 < n .pad → free ≡ lookup (decode bytes) n
   no-pad h = no-ticket (λ l. omega (arith, name-in-range (decode bytes) (decoded-sized bytes) n l .pad, h))
+
+  -- nor a place
+  pub no-place : free ≡ lookup (decode bytes) n → 256 ≡ placeOf (decode bytes) n
+  unfolding placeOf
+  no-place e = rw (sym e) refl
 
   pub no-program : 7 < n .program → free ≡ lookup (decode bytes) n
   no-program h = no-ticket (λ l. omega (arith, name-in-range (decode bytes) (decoded-sized bytes) n l .program, h))
@@ -57,6 +62,14 @@ module _ (bytes : List ℕ) (n : Name) where
           here
           ∙ ap (λ (j : ℕ). getD tickets j free)
           (first-hit (hasNumber (n .number)) tickets free i (omega (arith, h, long)) (ap (hasNumber (n .number)) (sym here) ∙ y) s)
+
+      pub place-hit : hasNumber (n .number) k ≡ true → Search i → place ≡ placeOf (decode bytes) n
+      unfolding placeOf hasNumber
+      place-hit y s =
+          let there = first-hit (hasNumber (n .number)) tickets free i (omega (arith, h, long)) (ap (hasNumber (n .number)) (sym here) ∙ y) s in
+          let live : isLive (lookup (decode bytes) n .kind) ≡ true
+          = ap (λ (x : Ticket). isLive (x .kind)) (sym (ticket-hit y s)) ∙ and-l (isLive (k .kind)) _ y in
+          rw live (omega (arith, e, there))
 
       pub ticket-miss : hasNumber (n .number) k ≡ false → Search i → Search (i + 1)
       ticket-miss y s = first-miss (hasNumber (n .number)) tickets free i (omega (arith, h, long)) (ap (hasNumber (n .number)) (sym here) ∙ y) s

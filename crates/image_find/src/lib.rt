@@ -1,9 +1,9 @@
-// A ticket and an entry found by name in the tables' image, a program found by its numbers, and a free place for a ticket or an entry.
+// A ticket, its place and an entry found by name in the tables' image, a program found by its numbers, and a free place for a ticket or an entry.
 ghost use Prim.Native.Nat.{_/_, _%_, _<_};
 ghost use mathlib.Core.Path.{_≡_};
 ghost use lib.ListN.{length};
 ghost use Rattle.lists.specs.Lists.{firstIndex};
-ghost use Rattle.tables.specs.Lookup.{isNamed, programAt, ticketsOf, lookup, entryOf};
+ghost use Rattle.tables.specs.Lookup.{isNamed, programAt, ticketsOf, lookup, placeOf, entryOf};
 ghost use Rattle.tables.specs.Change.{isFree, isSpare};
 ghost use Rattle.image.specs.Layout.{imageSize};
 ghost use Rattle.image.specs.Image.{decode};
@@ -34,6 +34,29 @@ pub fn ticket(image: &[u8], n: Name) -> Ticket
         i = i + 1;
     }
     Ticket::free()
+}
+
+// The place of the live ticket of a name, counted over all pads and programs, or 256.
+pub fn ticket_place(image: &[u8], n: Name) -> usize
+    requires { ⌜ length (now image) ≡ imageSize ⌝ }
+    ensures { λ r. ⌜ r ≡ placeOf (decode (now (image .entry))) n ⌝ }
+{
+    if 3 < n.pad {
+        return 256;
+    }
+    if 7 < n.program {
+        return 256;
+    }
+    let from = 64 * image_places::wide(n.pad) + 8 * image_places::wide(n.program);
+    let mut i: usize = 0;
+    while i < 8 {
+        let k = image_read::ticket_at(image, from + i);
+        if k.has_number(n.number) {
+            return from + i;
+        }
+        i = i + 1;
+    }
+    256
 }
 
 // A program: its eight places for tickets and its last number.

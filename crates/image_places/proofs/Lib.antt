@@ -3,3 +3,4 @@ pub mod WalkSteps
 pub mod Laying
 pub mod PlaceSteps
 pub mod Laws
+pub mod Kept

@@ -51,13 +51,19 @@ module _ (a b : ℕ) where
       go (pass e) = rw e (omega arith)
       go (fail e) = rw e (ltb-false a b e)
 
-  further-from : (c : ℕ) → c < further a b → (c < a) ⊎ (c < b)
+  pub further-from : (c : ℕ) → c < further a b → (c < a) ⊎ (c < b)
   unfolding further
   further-from c h = go (case (ltb a b))
     where
       go : Case (ltb a b) → (c < a) ⊎ (c < b)
       go (pass e) = inr (rw e at h)
       go (fail e) = inl (rw e at h)
+
+-- reach with the end noted at s taken in: no end noted up to there is past it
+pub reach-more : (ends : List ℕ) {reach s next : ℕ} → ((k : ℕ) → k < s → getD ends k 0 ≤ reach) → next ≡ further reach (getD ends s 0)
+    → (k : ℕ) → k < s + 1 → getD ends k 0 ≤ next
+reach-more ends {reach} {s} {next} before is =
+    below-more _ s (λ k c. omega (arith, before k c, is, further-left reach (getD ends s 0))) (rw is (further-right reach (getD ends s 0)))
 
 -- ---- one entry noted
 module _ (e : Entry) (l : List ℕ) where
@@ -184,6 +190,23 @@ module _ (es : List Entry) (i : ℕ) (now : List ℕ) {all-noted : List ℕ} (so
   unfolding noteEnds
   noting-end b = ap (λ (m : List Entry). noteEnds m now) (sym (drop-of-length-le es b)) ∙ so-far
 
+-- ---- no end noted yet
+abbrev pub noEnds : List ℕ
+noEnds = replicate 256 0
+
+no-ends-long : length noEnds ≡ 256
+no-ends-long = length-replicate {A = ℕ} 256 0
+
+no-ends : (k : ℕ) → getD noEnds k 0 ≡ 0
+no-ends k = go (case (ltb k 256))
+  where
+    go : Case (ltb k 256) → getD noEnds k 0 ≡ 0
+    go (pass b) = getD-replicate {A = ℕ} 256 k 0 0 (ltb-true k 256 b)
+    go (fail b) =
+        let h : 256 ≤ k = ltb-false k 256 b in
+        let m : length noEnds ≤ k = omega (arith, no-ends-long) in
+        List·getD-eq-default noEnds 0 m
+
 -- ---- an entry and a run of count sheets from a on
 module _ (count a : ℕ) (e : Entry) where
   -- it begins before the run's end and ends past the run's beginning
@@ -211,13 +234,37 @@ module _ (es : List Entry) (count a : ℕ) where
       cannot-pass (leb (a + count) 256 && all (outside a count) es)
       (λ h. contradiction (all-elim noEntry (outside a count) es (and-r (leb (a + count) 256) _ h) j b) (met count a (at es j) v p q))
 
-  run-free : a + count ≤ 256 → ((j : ℕ) → j < length es → at es j .live ≡ true → (a + count ≤ at es j .first) ⊎ (end (at es j) ≤ a)) → isFreeRun es count a ≡ true
+  run-free : a + count ≤ 256 → ((j : ℕ) → j < length es → at es j .live ≡ true → (a + count ≤ at es j .first) ⊎ (end (at es j) ≤ a))
+      → isFreeRun es count a ≡ true
   unfolding isFreeRun
   run-free b clear = and-intro (le-leb (a + count) 256 b) (all-intro noEntry (outside a count) es (λ j c. clear-of count a (at es j) (clear j c)))
 
   run-high : 256 < a + count → isFreeRun es count a ≡ false
   unfolding isFreeRun
   run-high h = rw (lt-leb (a + count) 256 h)
+
+-- ---- all ends noted, and the run
+module _ (es : List Entry) {ends : List ℕ} (noted-all : ends ≡ noteEnds es noEnds) (count a : ℕ) where
+  -- an end noted within the run or before it, and past its beginning, is that of an entry that meets it
+  pub run-behind : (s : ℕ) → s < a + count → a < getD ends s 0 → isFreeRun es count a ≡ false
+  run-behind s b h = go (all-from es noEnds no-ends-long s a (subst (λ (l : List ℕ). a < getD l s 0) noted-all h))
+    where
+      go : (a < getD noEnds s 0) ⊎ Ending es s a → isFreeRun es count a ≡ false
+      go (inl p) = absurd (omega (arith, no-ends s, p))
+      go (inr w) = run-met es count a (w .place) (w .low) (w .live) (omega (arith, w .first)) (w .past)
+
+  pub run-clear : a + count ≤ 256 → ((k : ℕ) → k < a + count → getD ends k 0 ≤ a) → isFreeRun es count a ≡ true
+  run-clear b before = run-free es count a b clear
+    where
+      clear : (j : ℕ) → j < length es → at es j .live ≡ true → (a + count ≤ at es j .first) ⊎ (end (at es j) ≤ a)
+      clear j d v = go (case (ltb (at es j .first) (a + count)))
+        where
+          go : Case (ltb (at es j .first) (a + count)) → (a + count ≤ at es j .first) ⊎ (end (at es j) ≤ a)
+          go (fail p) = inl (ltb-false (at es j .first) (a + count) p)
+          go (pass p) =
+              let z : at es j .first < a + count = ltb-true (at es j .first) (a + count) p in
+              let u = all-upper es noEnds no-ends-long j d v (omega arith) in
+              inr (omega (arith, u, ap (λ (l : List ℕ). getD l (at es j .first) 0) noted-all, before (at es j .first) z))
 
 -- ---- the least number that passes, where all below a fail
 least-past : (f : ℕ → Bool) (n a : ℕ) → a ≤ n → ((i : ℕ) → i < a → f i ≡ false) → least f n 0 ≡ least f (n - a) a
@@ -239,27 +286,11 @@ module _ (es : List Entry) (count a : ℕ) (none : (i : ℕ) → i < a → isFre
   lowest-nowhere b = least-end (isFreeRun es count) 256 a (omega arith) _ (least-past (isFreeRun es count) 256 a (omega arith) none)
 
 -- ---- where the search stands: the sheets below s have been seen, and no free run begins below start
-abbrev pub noEnds : List ℕ
-noEnds = replicate 256 0
-
 pub record Sought (count : ℕ) (ends : List ℕ) (start s : ℕ) : Type 0 where
   pub within : s ≤ 256
   pub short : s < start + count
   pub past : (k : ℕ) → k < s → getD ends k 0 ≤ start
   pub none : (es : List Entry) → ends ≡ noteEnds es noEnds → (a : ℕ) → a < start → isFreeRun es count a ≡ false
-
-no-ends-long : length noEnds ≡ 256
-no-ends-long = length-replicate {A = ℕ} 256 0
-
-no-ends : (k : ℕ) → getD noEnds k 0 ≡ 0
-no-ends k = go (case (ltb k 256))
-  where
-    go : Case (ltb k 256) → getD noEnds k 0 ≡ 0
-    go (pass b) = getD-replicate {A = ℕ} 256 k 0 0 (ltb-true k 256 b)
-    go (fail b) =
-        let h : 256 ≤ k = ltb-false k 256 b in
-        let m : length noEnds ≤ k = omega (arith, no-ends-long) in
-        List·getD-eq-default noEnds 0 m
 
 module _ {count : ℕ} {ends : List ℕ} where
   pub sought-none : 1 ≤ count → Sought count ends 0 0
@@ -271,22 +302,16 @@ module _ {count : ℕ} {ends : List ℕ} where
     next-left = rw is (further-left start (getD ends s 0))
 
     next-past : (k : ℕ) → k < s + 1 → getD ends k 0 ≤ next
-    next-past = below-more _ s (λ k c. omega (arith, so-far .past k c, next-left)) (rw is (further-right start (getD ends s 0)))
+    next-past = reach-more ends (so-far .past) is
 
     -- a run that begins from start on, below an end noted at s, meets that entry
     next-none : (es : List Entry) → ends ≡ noteEnds es noEnds → (a : ℕ) → a < next → isFreeRun es count a ≡ false
     next-none es q a c = go (case (ltb a start)) (further-from start (getD ends s 0) a (rw is at c))
       where
-        hit : Case (ltb a start) → (a < getD noEnds s 0) ⊎ Ending es s a → isFreeRun es count a ≡ false
-        hit (pass p) _ = so-far .none es q a (ltb-true a start p)
-        hit (fail p) (inl h) = absurd (omega (arith, no-ends s, h))
-        hit (fail p) (inr w) =
-            let z : start ≤ a = ltb-false a start p in
-            run-met es count a (w .place) (w .low) (w .live) (omega (arith, w .first, so-far .short)) (w .past)
-
         go : Case (ltb a start) → (a < start) ⊎ (a < getD ends s 0) → isFreeRun es count a ≡ false
         go _ (inl h) = so-far .none es q a h
-        go p (inr h) = hit p (all-from es noEnds no-ends-long s a (subst (λ (l : List ℕ). a < getD l s 0) q h))
+        go (pass p) (inr _) = so-far .none es q a (ltb-true a start p)
+        go (fail p) (inr h) = let z : start ≤ a = ltb-false a start p in run-behind es q count a s (omega (arith, so-far .short)) h
 
     pub sought-more : (s + 1 ≡ next + count → ⊥) → Sought count ends next (s + 1)
     sought-more ne = record {
@@ -297,18 +322,9 @@ module _ {count : ℕ} {ends : List ℕ} where
     }
 
     pub sought-found : 1 ≤ count → (es : List Entry) → ends ≡ noteEnds es noEnds → s + 1 ≡ next + count → next ≡ lowestRun es count
-    sought-found c es q e = lowest-here es count next (next-none es q) (omega arith) (run-free es count next (omega arith) clear)
-      where
-        clear : (j : ℕ) → j < length es → at es j .live ≡ true → (next + count ≤ at es j .first) ⊎ (end (at es j) ≤ next)
-        clear j d v = go (case (ltb (at es j .first) (s + 1)))
-          where
-            go : Case (ltb (at es j .first) (s + 1)) → (next + count ≤ at es j .first) ⊎ (end (at es j) ≤ next)
-            go (fail p) = let z : s + 1 ≤ at es j .first = ltb-false (at es j .first) (s + 1) p in inl (omega arith)
-            go (pass p) =
-                let z : at es j .first < s + 1 = ltb-true (at es j .first) (s + 1) p in
-                let u : end (at es j) ≤ getD ends (at es j .first) 0
-                = subst (λ (l : List ℕ). end (at es j) ≤ getD l (at es j .first) 0) (sym q) (all-upper es noEnds no-ends-long j d v (omega arith)) in
-                inr (omega (arith, u, next-past (at es j .first) z))
+    sought-found c es q e =
+        lowest-here es count next (next-none es q) (omega arith)
+        (run-clear es q count next (omega arith) (λ k d. next-past k (omega arith)))
 
   pub sought-end : {start s : ℕ} → Sought count ends start s → 256 ≤ s → (es : List Entry) → ends ≡ noteEnds es noEnds → s ≡ lowestRun es count
   sought-end {start} {s} so-far b es q = lowest-nowhere es count s none (omega (arith, so-far .within))

@@ -1,8 +1,8 @@
-// The lowest run of sheets that no entry of the image has.
+// The lowest run of sheets that no entry of the image has, and how many sheets none has.
 ghost use mathlib.Core.Path.{_≡_};
 ghost use Prim.Native.Nat.{_≤_};
 ghost use lib.ListN.{length};
-ghost use Rattle.tables.specs.Sheets.{lowestRun};
+ghost use Rattle.tables.specs.Sheets.{lowestRun, sheetsFree};
 ghost use Rattle.image.specs.Layout.{imageSize};
 ghost use Rattle.image_read.specs.Places.{entriesIn};
 ghost use Rattle.op_run.specs.Ends.{further, noteEnd, noteEnds};
@@ -64,4 +64,27 @@ pub fn lowest_run(image: &[u8], count: usize) -> usize
         }
     }
     s
+}
+
+// How many sheets lie outside all entries, counted sheet by sheet: one does where the furthest of the entries that begin there or below does
+// not end behind it.
+pub fn free_sheets(image: &[u8]) -> u16
+    requires { ⌜ length (now image) ≡ imageSize ⌝ }
+    ensures { λ r. ⌜ r ≡ sheetsFree (entriesIn (now (image .entry))) ⌝ }
+{
+    let mut ends = [0u32; 256];
+    note_ends(&mut ends, image);
+    let mut reach: u32 = 0;
+    let mut free: u16 = 0;
+    let mut s: usize = 0;
+    while s < 256 {
+        let end = ends[s];
+        let sheet = s;
+        s = s + 1;
+        reach = furthest(reach, end);
+        if reach as usize <= sheet {
+            free = free + 1;
+        }
+    }
+    free
 }
