@@ -3,6 +3,7 @@
 ghost use mathlib.Core.Path.{_≡_};
 ghost use Rattle.image.specs.Layout.{imageSize};
 ghost use Rattle.lending.specs.Batch.{buffersOf, Leaves};
+ghost use Rattle.lending.specs.Report.{reportBuffers, ReportsLent};
 ghost use Rattle.lending.specs.Trace.{traceBuffers, TracesLent};
 ghost use Rattle.lending.specs.Host.{EmptiesImage, Steps, orderOf, checkImage};
 ghost use Rattle.dock.specs.Version.{version};
@@ -118,4 +119,17 @@ pub extern "C" fn dock_trace(
     ensures { λ r. ⌜ TracesLent (traceBuffers (now (tables .entry)) (now (store .entry)) (now (input .entry)) (now (output .entry))) r (now (tables .exit)) (now (store .exit)) (now (output .exit)) (now (length .exit)) ⌝ }
 {
     text_trace::trace_lent(tables, store, input, output, length)
+}
+
+// The ward report, by a scratch for marks, which is zeros after every answer. Its length, 0 with a refusal, goes to `length`.
+#[no_mangle]
+pub extern "C" fn dock_report(
+    tables: &[u8],
+    scratch: &mut [u8],
+    output: &mut [u8],
+    length: &mut usize,
+) -> u16
+    ensures { λ r. ⌜ ReportsLent (reportBuffers (now (tables .entry)) (now (scratch .entry)) (now (output .entry))) r (now (scratch .exit)) (now (output .exit)) (now (length .exit)) ⌝ }
+{
+    text_report::report_lent(tables, scratch, output, length)
 }

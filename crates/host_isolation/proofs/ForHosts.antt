@@ -11,7 +11,7 @@ use Rattle.machine.specs.Step.{step}
 use Rattle.machine.specs.Sequence.{Sent, after, Group, groupExchanges}
 use Rattle.machine.specs.Isolation.{no-left, no-right}
 use Rattle.isolation.proofs.Isolation.{isolation}
-use Rattle.host_isolation.specs.Calls.{Dock, WholeDock, Call, emptying, stepping, serving, tracing, checking, testing, left, Exchange, made, empties, exchanges, noneCrosses, ofGroup, Isolated, IsolatedForHosts}
+use Rattle.host_isolation.specs.Calls.{Dock, WholeDock, Call, emptying, stepping, serving, tracing, reporting, checking, testing, left, Exchange, made, empties, exchanges, noneCrosses, ofGroup, Isolated, IsolatedForHosts}
 use Rattle.host_isolation.proofs.Traced.{traced, traced-append, asSeen, edge-seen, group-seen, given-seen, agree-seen}
 use Rattle.host_isolation.proofs.Stands.{Stands, stands-whole, emptied-stands}
 use Rattle.host_isolation.proofs.OneCall.{startFor, Makes, nothing-made, stepping-makes}
@@ -26,6 +26,7 @@ call-makes d s h emptying = record { sent = []; same = refl; stands = emptied-st
 call-makes d s h (stepping sheet request answer) = stepping-makes d sheet request answer s h
 call-makes d s h (serving sheets requests answers) = serving-makes d sheets requests answers s h
 call-makes d s h (tracing input output) = tracing-makes d input output s h
+call-makes d s h (reporting scratch output) = nothing-made d (reporting scratch output) s refl refl h
 call-makes d s h (checking pad program number sheet right) = nothing-made d (checking pad program number sheet right) s refl refl h
 call-makes d s h testing = nothing-made d testing s refl refl h
 

@@ -17,7 +17,7 @@ use Rattle.image.specs.Image.{encode}
 use Rattle.lending.specs.Batch.{lengthsFit, batchRefusal, untouched, batch}
 use Rattle.lending.specs.Host.{emptyImage, stepRefusal, stepImage}
 use Rattle.lending.specs.Trace.{traceRefusal, traceLent}
-use Rattle.host_isolation.specs.Calls.{Dock, WholeDock, Call, emptying, stepping, serving, tracing, checking, testing, lent, lentTrace, left, made, empties, exchanges}
+use Rattle.host_isolation.specs.Calls.{Dock, WholeDock, Call, emptying, stepping, serving, tracing, reporting, checking, testing, lent, lentTrace, left, made, empties, exchanges}
 
 abbrev pub isWhole : Dock → Bool
 isWhole d = eqb (length (d .image)) imageSize && eqb (length (d .store)) 16384
@@ -47,6 +47,7 @@ module _ (d : Dock) (other : isWhole d ≡ false) where
   none-made (stepping sheet request answer) = rw (step-13 sheet request answer)
   none-made (serving sheets requests answers) = rw (serve-13 sheets requests answers)
   none-made (tracing input output) = rw (trace-13 input output)
+  none-made (reporting scratch output) = refl
   none-made (checking pad program number sheet right) = refl
   none-made testing = refl
 
@@ -62,6 +63,7 @@ module _ (d : Dock) (other : isWhole d ≡ false) where
   still-other (stepping sheet request answer) = rw (step-13 sheet request answer) other
   still-other (serving sheets requests answers) = rw (serve-13 sheets requests answers) other
   still-other (tracing input output) = rw (trace-13 input output) other
+  still-other (reporting scratch output) = other
   still-other (checking pad program number sheet right) = other
   still-other testing = other
 

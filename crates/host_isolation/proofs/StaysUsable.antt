@@ -20,6 +20,12 @@ use Rattle.machine.specs.Numbers.{requestWidth, answerWidth, answerNumbers}
 use Rattle.preservation.specs.InOrder.{DockOk}
 use Rattle.preservation.proofs.StepKeepsOrder.{step-keeps, result-at-most-12, empty-dock-ok}
 use Rattle.preservation.proofs.Results.{dock-refusal-low}
+use Rattle.preservation.proofs.TestMeansOrder.{test-means-order}
+use Rattle.text_marks.specs.Marks.{markBytes}
+use Rattle.report.specs.Report.{reportRoom, report}
+use Rattle.report.proofs.Short.{report-short}
+use Rattle.image_find.proofs.Laws.{decoded-sized}
+use Rattle.lending.specs.Report.{reportRefusal, reportLent}
 use Rattle.image.specs.Layout.{imageSize}
 use Rattle.image.specs.Image.{decode}
 use Rattle.trace_texts.specs.Trace.{traceRoom}
@@ -27,7 +33,7 @@ use Rattle.trace_texts.proofs.AnswersLaws.{trace-short-from}
 use Rattle.lending.specs.Batch.{lengthsFit, batchRefusal, allServed, untouched, batch}
 use Rattle.lending.specs.Host.{stepRefusal, stepImage, checkImage}
 use Rattle.lending.specs.Trace.{dockOf, traceOf, traceRefusal, traceLent}
-use Rattle.host_isolation.specs.Calls.{Dock, Call, emptying, stepping, serving, tracing, checking, testing, lent, lentTrace, result, left, leftByAll, Exchange, made, empties, Usable, UsableForHosts, UsableInOrder}
+use Rattle.host_isolation.specs.Calls.{Dock, Call, emptying, stepping, serving, tracing, reporting, checking, testing, lent, lentTrace, lentReport, result, left, leftByAll, Exchange, made, empties, Usable, UsableForHosts, UsableInOrder}
 use Rattle.host_isolation.proofs.Traced.{traced}
 use Rattle.host_isolation.proofs.Stands.{Stands, is-image, in-order, tables-ok, stands-whole, order-0, is-emptied, emptied-stands, kept-stands}
 use Rattle.host_isolation.proofs.OneCall.{startFor, step-low}
@@ -43,6 +49,11 @@ only-17 : (y : Bool) → (17 when y else 0) ≡ 14 → ⊥
 unfolding _when_else_
 only-17 true z = omega arith
 only-17 false z = omega arith
+
+16-or-17 : (x y : Bool) → (16 when x else 17 when y else 0) ≡ 14 → ⊥
+unfolding _when_else_
+16-or-17 true y z = omega arith
+16-or-17 false y z = only-17 y z
 
 -- no answer of a sequence is above 12
 lowAnswer : Exchange → Bool
@@ -142,6 +153,30 @@ module _ (d : Dock) (s : State) (h : Stands d s) where
   traced-not-14 input output (pass e) z = let z′ : _≡_ {A = ℕ} 0 14 = rw e at z in omega arith
   traced-not-14 input output (fail e) z = trace-not-14 input output (rw e at z)
 
+  report-0 : (scratch output : List ℕ) → length scratch ≡ markBytes → reportRoom ≤ length output → reportRefusal (lentReport d scratch output) ≡ 0
+  unfolding reportRefusal _when_else_
+  report-0 scratch output marks room =
+      let short = report-short (decode (d .image)) (test-means-order (decode (d .image)) (decoded-sized (d .image)) (in-order d s h)) in
+      rw (
+        eq-eqb (length (d .image)) imageSize long,
+        tables-ok d s h,
+        eq-eqb (length scratch) markBytes marks,
+        le-leb (length (report (decode (d .image)))) (length output) (omega (arith, short, room)),
+      )
+
+  report-not-14 : (scratch output : List ℕ) → reportRefusal (lentReport d scratch output) ≡ 14 → ⊥
+  unfolding reportRefusal
+  report-not-14 scratch output z =
+      let short = not (leb (length (report (decode (d .image)))) (length output)) in
+      not-14 (not (eqb (length (d .image)) imageSize)) (16 when not (eqb (length scratch) markBytes) else 17 when short else 0)
+      (16-or-17 (not (eqb (length scratch) markBytes)) short) (rw (tables-ok d s h) at z)
+
+  reported-not-14 : (scratch output : List ℕ) → Case (eqb (reportRefusal (lentReport d scratch output)) 0)
+      → reportLent (lentReport d scratch output) .result ≡ 14 → ⊥
+  unfolding reportLent
+  reported-not-14 scratch output (pass e) z = let z′ : _≡_ {A = ℕ} 0 14 = rw e at z in omega arith
+  reported-not-14 scratch output (fail e) z = report-not-14 scratch output (rw e at z)
+
   check-low : (pad program number sheet right : ℕ) → checkImage (d .image) pad program number sheet right ≤ 12
   unfolding checkImage dockCheck _when_else_
   check-low pad program number sheet right =
@@ -153,6 +188,7 @@ module _ (d : Dock) (s : State) (h : Stands d s) where
   never (stepping sheet request answer) z = stepped-not-14 sheet request answer (case (eqb (stepRefusal (lent d sheet request answer)) 0)) z
   never (serving sheets requests answers) z = served-not-14 sheets requests answers (case (eqb (batchRefusal (lent d sheets requests answers)) 0)) z
   never (tracing input output) z = traced-not-14 input output (case (eqb (traceRefusal (lentTrace d input output)) 0)) z
+  never (reporting scratch output) z = reported-not-14 scratch output (case (eqb (reportRefusal (lentReport d scratch output)) 0)) z
   never (checking pad program number sheet right) z = let low = check-low pad program number sheet right in omega (arith, low, z)
   never testing z = let zero14 : _≡_ {A = ℕ} 0 14 = sym (order-0 d s h) ∙ z in omega arith
 
@@ -162,7 +198,7 @@ module _ (d : Dock) (s : State) (h : Stands d s) where
 
   usable : Usable d
   unfolding lowAnswer
-  usable = record { whole = stands-whole d s h; never14 = never; answered = low-answers; emptied = empty-0; stepped = step-0; served = serve-0; traced = trace-0 }
+  usable = record { whole = stands-whole d s h; never14 = never; answered = low-answers; emptied = empty-0; stepped = step-0; served = serve-0; traced = trace-0; reported = report-0 }
 
 usable-after : (cs : List Call) (d : Dock) (s : State) → Stands d s → Usable (leftByAll d cs)
 unfolding leftByAll

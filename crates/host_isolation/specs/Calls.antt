@@ -27,6 +27,9 @@ use Rattle.trace_texts.specs.Trace.{traceRoom, servedBy, leftByLine, inputOk}
 use Rattle.lending.specs.Numbers.{requestAt, countOf}
 use Rattle.lending.specs.Batch.{Buffers, buffersOf, Left, batchRefusal, batch}
 use Rattle.lending.specs.Host.{emptyImage, stepRefusal, stepImage, orderOf, checkImage}
+use Rattle.text_marks.specs.Marks.{markBytes}
+use Rattle.report.specs.Report.{reportRoom}
+use Rattle.lending.specs.Report.{ReportBuffers, reportBuffers, reportRefusal, reportLent}
 use Rattle.lending.specs.Trace.{TraceBuffers, traceBuffers, dockOf, traceRefusal, traceLent}
 
 -- ---- a host's dock, and its calls
@@ -38,13 +41,14 @@ pub record WholeDock (d : Dock) : Type 0 where
   pub image : length (d .image) ≡ imageSize
   pub store : length (d .store) ≡ 16384
 
--- dock_empty, dock_step, dock_serve, dock_trace, dock_check and dock_in_order, with all that each is handed beside the dock: buffers of any
--- lengths, any numbers
+-- dock_empty, dock_step, dock_serve, dock_trace, dock_report, dock_check and dock_in_order, with all that each is handed beside the dock:
+-- buffers of any lengths, any numbers
 pub data Call : Type 0 where
   emptying : Call
   stepping : (sheet request answer : List ℕ) → Call
   serving : (sheets requests answers : List ℕ) → Call
   tracing : (input output : List ℕ) → Call
+  reporting : (scratch output : List ℕ) → Call
   checking : (pad program number sheet right : ℕ) → Call
   testing : Call
 
@@ -54,16 +58,20 @@ lent d sheets requests answers = buffersOf (d .image) (d .store) sheets requests
 abbrev pub lentTrace : Dock → List ℕ → List ℕ → TraceBuffers
 lentTrace d input output = traceBuffers (d .image) (d .store) input output
 
+abbrev pub lentReport : Dock → List ℕ → List ℕ → ReportBuffers
+lentReport d scratch output = reportBuffers (d .image) scratch output
+
 -- the number that comes back
 unfoldable pub result : Dock → Call → ℕ
 result d emptying = emptyImage (d .image) (d .store) .result
 result d (stepping sheet request answer) = stepImage (lent d sheet request answer) .result
 result d (serving sheets requests answers) = batch (lent d sheets requests answers) .result
 result d (tracing input output) = traceLent (lentTrace d input output) .result
+result d (reporting scratch output) = reportLent (lentReport d scratch output) .result
 result d (checking pad program number sheet right) = checkImage (d .image) pad program number sheet right
 result d testing = orderOf (d .image)
 
--- the dock afterwards; the check and the order test only read it
+-- the dock afterwards; the report, the check and the order test only read it
 abbrev pub dockIn : Left → Dock
 dockIn l = record { image = l .tables; store = l .store }
 
@@ -72,6 +80,7 @@ left d emptying = let e = emptyImage (d .image) (d .store) in record { image = e
 left d (stepping sheet request answer) = dockIn (stepImage (lent d sheet request answer))
 left d (serving sheets requests answers) = dockIn (batch (lent d sheets requests answers))
 left d (tracing input output) = let l = traceLent (lentTrace d input output) in record { image = l .tables; store = l .store }
+left d (reporting scratch output) = d
 left d (checking pad program number sheet right) = d
 left d testing = d
 
@@ -121,6 +130,7 @@ made d (serving sheets requests answers) =
 made d (tracing input output) =
     let served = inLines (dockOf (d .image) (d .store)) (behindNames (lines input)) in
     cond (eqb (traceRefusal (lentTrace d input output)) 0 && inputOk input) served []
+made d (reporting scratch output) = []
 made d (checking pad program number sheet right) = []
 made d testing = []
 
@@ -131,6 +141,7 @@ empties emptying = true
 empties (stepping sheet request answer) = false
 empties (serving sheets requests answers) = false
 empties (tracing input output) = false
+empties (reporting scratch output) = false
 empties (checking pad program number sheet right) = false
 empties testing = false
 
@@ -172,7 +183,7 @@ IsolatedForHosts =
     (g : Group) (d e : Dock) (cs ds : List Call) → Isolated g (exchanges d (emptying ∷ cs)) (exchanges e (emptying ∷ ds))
 
 -- ---- A call that is refused makes no request, so that the claim is silent about it. That others cannot bring about a refusal is said here: 14
--- never comes, as a result or in an answer, and 13 and 17 only where a buffer that is handed in beside the dock has another length.
+-- never comes, as a result or in an answer, and 13, 16 and 17 only where a buffer that is handed in beside the dock has another length.
 pub record Usable (d : Dock) : Type 0 where
   pub whole : WholeDock d
   pub never14 : (c : Call) → result d c ≡ 14 → ⊥
@@ -183,6 +194,7 @@ pub record Usable (d : Dock) : Type 0 where
   pub served : (n : ℕ) (sheets requests answers : List ℕ) → length sheets ≡ 64 * n → length requests ≡ requestWidth * n → length answers ≡ answerWidth * n
       → batchRefusal (lent d sheets requests answers) ≡ 0
   pub traced : (input output : List ℕ) → traceRoom ≤ length output → traceRefusal (lentTrace d input output) ≡ 0
+  pub reported : (scratch output : List ℕ) → length scratch ≡ markBytes → reportRoom ≤ length output → reportRefusal (lentReport d scratch output) ≡ 0
 
 abbrev pub UsableForHosts : Type 0
 UsableForHosts = (d : Dock) → WholeDock d → (cs : List Call) → Usable (leftByAll d (emptying ∷ cs))

@@ -3,3 +3,4 @@ pub mod Sequence
 pub mod Batch
 pub mod Host
 pub mod Trace
+pub mod Report

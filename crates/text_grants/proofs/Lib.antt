@@ -1,0 +1,2 @@
+mod Grants
+pub mod Programs

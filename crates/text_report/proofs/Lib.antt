@@ -1,0 +1,2 @@
+mod WholeReport
+mod LentReport
