@@ -47,6 +47,8 @@ extern "C" {
 #define DOCK_ANSWER 3     /* numbers of an answer */
 #define DOCK_TRACE_INPUT 65536 /* bytes of the longest input of a trace */
 #define DOCK_TRACE_ROOM 983074 /* bytes that every trace fits into */
+#define DOCK_REPORT_SCRATCH 256 /* bytes of the scratch of a report: one for each ticket place */
+#define DOCK_REPORT_ROOM 6196   /* bytes that every report fits into */
 
 /* The version that this header belongs to: major * 10000 + minor * 100 + patch. */
 #define DOCK_VERSION 20000
@@ -105,6 +107,7 @@ enum dock_result {
     DOCK_LENGTH = 13,       /* a buffer has another length */
     DOCK_NOT_IN_ORDER = 14, /* the bytes are no tables, or the tables are not in order */
     DOCK_OTHER_FORM = 15,   /* only in traces: a line or text of another form */
+    DOCK_SCRATCH = 16,      /* the scratch of a report has another length */
     DOCK_TOO_SHORT = 17     /* the output is too short */
 };
 
@@ -254,6 +257,27 @@ uint16_t dock_trace(uint8_t *tables, size_t tables_length, uint8_t *store, size_
                     const uint8_t *input, size_t input_length,
                     uint8_t *output, size_t output_length, size_t *length);
 
+/*
+ * The ward report: who can read what. The first line is
+ *     depth pad program ticket first count rights
+ * and each line behind it a grant that the dock lets through: its depth, its name, its first sheet in the
+ * store, how many, its rights. Taken grants have depth 0 and come by pad, program and number. A grant's line
+ * is followed by its loans, to its own pad and to others, by the numbers of their recalls; each has a depth
+ * of one more and its own loans behind it. A loan whose entry has gone is left out, with all that was lent
+ * on from it, also while its grant is still on the pad. The last line has two numbers: the sheets taken,
+ * which is the sum of the counts at depth 0, and the sheets free; together they are DOCK_SHEETS.
+ *
+ * Lengths: DOCK_TABLES, DOCK_REPORT_SCRATCH; the output may have any. The report goes to the front of the
+ * output and its length to *length. The scratch may hold anything before; after every result each of its
+ * bytes is 0, whatever its length. DOCK_LENGTH for the tables, DOCK_NOT_IN_ORDER, DOCK_SCRATCH where the
+ * scratch has another length, or DOCK_TOO_SHORT where the output is too short for the whole report:
+ * *length is 0, and the output stays as it was. An output below DOCK_REPORT_ROOM bytes costs a second walk,
+ * for the length. Otherwise DOCK_ACCEPTED. The tables never change.
+ */
+uint16_t dock_report(const uint8_t *tables, size_t tables_length,
+                     uint8_t *scratch, size_t scratch_length,
+                     uint8_t *output, size_t output_length, size_t *length);
+
 /* The rest is convenience over the functions above, and no part of the library. */
 
 /* A dock: what a host keeps. */
@@ -330,6 +354,7 @@ static inline const char *dock_result_name(uint16_t result)
     case DOCK_LENGTH: return "a buffer has another length";
     case DOCK_NOT_IN_ORDER: return "the tables are not in order";
     case DOCK_OTHER_FORM: return "a line or text of another form";
+    case DOCK_SCRATCH: return "the scratch has another length";
     case DOCK_TOO_SHORT: return "the output is too short";
     default: return "no such result";
     }
