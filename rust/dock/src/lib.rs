@@ -23,6 +23,9 @@ pub const ANSWER: usize = 3;
 /// Bytes that every trace fits into, and bytes of the longest input that is not refused whole.
 pub const TRACE_ROOM: usize = 983_074;
 pub const TRACE_INPUT: usize = 65_536;
+/// Bytes that every report fits into, and bytes of its scratch: one for each ticket place.
+pub const REPORT_ROOM: usize = 6_196;
+pub const REPORT_SCRATCH: usize = 256;
 /// Bytes of stack that a call may take, and that a trace may take: measured, not proved.
 pub const STACK: usize = 32_768;
 pub const TRACE_STACK: usize = 65_536;
@@ -215,6 +218,16 @@ impl Dock {
         Refusal::of_result(result).map(|()| length)
     }
 
+    /// Writes the ward report: every grant that the dock lets through, each taken one with its loans behind it.
+    /// The length of what was written comes back. Refused where the tables are not in order, where the scratch
+    /// has not `REPORT_SCRATCH` bytes, or where the output is too short for the whole report: then the output
+    /// stays as it was. The scratch may hold anything before and holds zeros afterwards, also where refused.
+    pub fn report(&self, scratch: &mut [u8], output: &mut [u8]) -> Result<usize, Refusal> {
+        let mut length = 0;
+        let result = raw::report(&self.tables[..], scratch, output, &mut length);
+        Refusal::of_result(result).map(|()| length)
+    }
+
     /// Whether the tables are in order: else `Refusal::NotInOrder`.
     pub fn in_order(&self) -> Result<(), Refusal> {
         Refusal::of_result(raw::in_order(&self.tables[..]))
@@ -321,6 +334,21 @@ pub mod raw {
             )
         }
     }
+
+    pub fn report(tables: &[u8], scratch: &mut [u8], output: &mut [u8], length: &mut usize) -> u16 {
+        // SAFETY: each pointer is valid for its length, and exclusive borrows overlap nothing.
+        unsafe {
+            ffi::dock_report(
+                tables.as_ptr(),
+                tables.len(),
+                scratch.as_mut_ptr(),
+                scratch.len(),
+                output.as_mut_ptr(),
+                output.len(),
+                length,
+            )
+        }
+    }
 }
 
 mod ffi {
@@ -383,6 +411,15 @@ mod ffi {
             store_length: usize,
             input: *const u8,
             input_length: usize,
+            output: *mut u8,
+            output_length: usize,
+            length: *mut usize,
+        ) -> u16;
+        pub fn dock_report(
+            tables: *const u8,
+            tables_length: usize,
+            scratch: *mut u8,
+            scratch_length: usize,
             output: *mut u8,
             output_length: usize,
             length: *mut usize,

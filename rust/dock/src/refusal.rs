@@ -65,6 +65,8 @@ refusals! {
     NotInOrder = 14, "the tables are not in order";
     /// Only in traces: a line or text of another form.
     OtherForm = 15, "a line or text of another form";
+    /// The scratch of a report has another length.
+    Scratch = 16, "the scratch has another length";
     /// The output is too short.
     TooShort = 17, "the output is too short";
 }

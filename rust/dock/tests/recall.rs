@@ -1,7 +1,7 @@
 //! Document 02's first request, through the library: a recall on the pad also ends, at the dock, the loans that
 //! went off the pad from what it removes. And the two clauses that T6 gains.
 
-use dock::{layout, rights, Answer, Dock, Refusal, Request, SHEET};
+use dock::{layout, rights, Answer, Dock, Refusal, Request, REPORT_SCRATCH, SHEET};
 
 /// A program: pad, program.
 type Program = (u16, u16);
@@ -184,6 +184,7 @@ fn refused(mut dock: Dock) {
     let (mut sheets, mut answers) = ([[0; SHEET]], [Answer::default()]);
     assert_eq!(dock.ask_all(&[read], &mut sheets, &mut answers), Err(Refusal::NotInOrder));
     assert_eq!(dock.trace(b"", &mut [0; 100]), Err(Refusal::NotInOrder));
+    assert_eq!(dock.report(&mut [0; REPORT_SCRATCH], &mut [0; 100]), Err(Refusal::NotInOrder));
     assert!(dock.tables == before.tables && dock.store == before.store);
 }
 

@@ -1,6 +1,8 @@
 //! Each refusal that a call can give, provoked through the library: its name stands for the library's number.
 
-use dock::{layout, raw, rights, Answer, Dock, Refusal, Request, ANSWER, REQUEST, SHEET};
+use dock::{
+    layout, raw, rights, Answer, Dock, Refusal, Request, ANSWER, REPORT_ROOM, REPORT_SCRATCH, REQUEST, SHEET,
+};
 
 /// A dock in which program 0 of pad 0 has four sheets under ticket 1.
 fn one_grant() -> Dock {
@@ -136,4 +138,18 @@ fn of_traces() {
     let mut length = 1;
     let result = raw::trace(&mut dock.tables[1..], &mut dock.store[..], &text, &mut output, &mut length);
     assert_eq!((Refusal::from_number(result), length), (Some(Refusal::Length), 0));
+}
+
+#[test]
+fn of_reports() {
+    let mut dock = one_grant();
+    let (mut scratch, mut output) = ([0; REPORT_SCRATCH], [0; REPORT_ROOM]);
+    assert_eq!(dock.report(&mut scratch[1..], &mut output), Err(Refusal::Scratch));
+    assert_eq!(dock.report(&mut scratch, &mut output[..1]), Err(Refusal::TooShort));
+    assert!(dock.report(&mut scratch, &mut output).is_ok());
+    let mut length = 1;
+    let result = raw::report(&dock.tables[1..], &mut scratch, &mut output, &mut length);
+    assert_eq!((Refusal::from_number(result), length), (Some(Refusal::Length), 0));
+    dock.tables[layout::TICKET_KIND_AT] = 5;
+    assert_eq!(dock.report(&mut scratch, &mut output), Err(Refusal::NotInOrder));
 }
