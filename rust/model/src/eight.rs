@@ -107,6 +107,11 @@ impl SheetSet {
         apart
     }
 
+    /// How many sheets are in the set.
+    pub fn count(&self) -> u16 {
+        self.0.iter().map(|word| word.count_ones() as u16).sum()
+    }
+
     /// The lowest run of `count` sheets outside the set.
     pub fn lowest_gap(&self, count: u16) -> Option<u16> {
         let count = u32::from(count);
@@ -152,6 +157,7 @@ mod tests {
                 assert_eq!(set.add(run), !plain[span.clone()].contains(&true));
                 plain[span].fill(true);
             }
+            assert_eq!(usize::from(set.count()), plain.iter().filter(|&&used| used).count());
             for count in [1, 2, 3, 17, 64, 65, 255, 256] {
                 let found = plain.windows(count).position(|run| !run.contains(&true));
                 assert_eq!(set.lowest_gap(count as u16).map(usize::from), found);

@@ -1,4 +1,4 @@
-//! Document 01 in plain Rust, with document 02's first request, as docs/DECISIONS.md reads them: a second
+//! Document 01 in plain Rust, with document 02's first two requests, as docs/DECISIONS.md reads them: a second
 //! implementation that the proved library is compared with and timed against. It shares no code and no layout
 //! with the library.
 //!
@@ -8,6 +8,7 @@
 
 mod eight;
 mod order;
+pub mod report;
 pub mod trace;
 
 use eight::{Eight, SheetSet};
@@ -29,7 +30,7 @@ pub const READ: u16 = 1;
 pub const WRITE: u16 = 2;
 pub const PASS_ON: u16 = 4;
 
-/// The refusals, by document 01's numbers.
+/// The refusals, by the documents' numbers.
 #[derive(Clone, Copy, Debug, PartialEq, Eq)]
 #[repr(u16)]
 pub enum Refusal {
@@ -47,6 +48,8 @@ pub enum Refusal {
     NoEntry = 12,
     Length = 13,
     NotInOrder = 14,
+    Scratch = 16,
+    TooShort = 17,
 }
 
 /// A ticket's name anywhere: pad, program and number. Any values can be held.
