@@ -197,6 +197,16 @@ impl Host<'_> {
         for word in unused {
             self.words[word] = self.rng.edge();
         }
+        self.like_grants();
+    }
+
+    /// Recalls that hold a grant's sheets, rights and dock name in the fields that they do not use.
+    fn like_grants(&mut self) {
+        for (_, recall) in self.tickets(&[RECALL], |_, _, _| true) {
+            if let (true, Some((_, grant))) = (self.rng.once_in(4), self.pick(&GRANTS)) {
+                self.words.copy_within(grant + FIRST..grant + TICKET, recall + FIRST);
+            }
+        }
     }
 
     fn swap_places(&mut self) {

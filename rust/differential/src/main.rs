@@ -4,6 +4,7 @@
 
 mod damage;
 mod follow;
+mod reports;
 mod texts;
 
 use dock::{raw, ANSWER, RECALL, REQUEST};
@@ -11,6 +12,7 @@ use follow::Followed;
 use image::random::Rng;
 use image::View;
 use model::{Answer, Name, Request, State, SEATS, SHEET, STORE};
+use reports::Reports;
 use requests::{Asker, Seats};
 use std::{env, process::ExitCode};
 
@@ -37,6 +39,7 @@ struct Counts {
     batches: usize,
     traces: usize,
     checks: usize,
+    reports: Reports,
 }
 
 impl Counts {
@@ -59,6 +62,7 @@ impl Counts {
         rows.extend(
             self.followed.rows().into_iter().chain(others).map(|(what, count)| (what.to_string(), count)),
         );
+        rows.extend(self.reports.rows());
         rows
     }
 }
@@ -299,6 +303,8 @@ impl Driver {
                     self.batch(&mut sides, &mut asker)?;
                 } else if self.rng.once_in(100) {
                     self.trace(&sides)?;
+                } else if self.rng.once_in(50) {
+                    self.counts.reports.compare(&mut self.rng, &sides)?;
                 } else {
                     self.one(&mut sides, &mut asker)?;
                 }
@@ -325,7 +331,11 @@ impl Driver {
         for _ in 0..30 {
             let harm = [0, 1, 1, 1, 2, 3][self.rng.below(6)];
             let image = damage::damage(tables, self.rng.below(4), harm, &mut self.rng);
-            Sides::from_image(image, store.clone()).compare_order(&mut self.rng, &mut self.counts)?;
+            let sides = Sides::from_image(image, store.clone());
+            sides.compare_order(&mut self.rng, &mut self.counts)?;
+            if self.rng.once_in(15) {
+                self.counts.reports.compare(&mut self.rng, &sides)?;
+            }
         }
         if let Some(image) = damage::far_child(tables, &mut self.rng) {
             Sides::from_image(image, store.clone()).both_refuse(&mut self.rng, &mut self.counts)?;
@@ -413,6 +423,9 @@ fn main() -> ExitCode {
     }
     let images = counts.in_order + counts.not_in_order;
     let (requests, batches, traces) = (counts.requests, counts.batches, counts.traces);
-    println!("differential: {requests} requests, {images} images, {batches} batches, {traces} traces, no difference");
+    let reports = counts.reports.compared();
+    println!(
+        "differential: {requests} requests, {images} images, {batches} batches, {traces} traces, {reports} reports, no difference"
+    );
     ExitCode::SUCCESS
 }
