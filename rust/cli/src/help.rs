@@ -8,6 +8,8 @@ dock: tickets between the ward pads and the dock's ink store
 
   dock trace [FROM]                                        answer a text of requests
   dock check [FROM] PAD PROGRAM NUMBER SHEET RIGHT         the dock's own check of one sheet
+  dock report [FROM]                                       who can read what
+  dock tree [FROM] [--svg]                                 the same for the eye
   dock help [COMMAND]                                      this, or a command's columns and an example
   dock --version
 
@@ -56,10 +58,49 @@ Example, whether the ticket 1 of program 0 on pad 0 may read sheet 3 after the r
   dock check --trace requests 0 0 1 3 1
 ";
 
+const REPORT: &str = "\
+dock report [FROM]
+
+Writes a line for each grant that the dock lets through, under the names
+  depth pad program ticket first count rights
+and a last line with the sheets taken and the sheets free.
+
+  depth     0 for a grant taken from the store, one more for each loan
+  pad, program, ticket    who has it, and its number there
+  first, count    its sheets, counted in the store
+  rights    1 read, 2 write, 4 pass on, added together
+
+Taken grants come by pad, program and number. Behind each stand its loans, by the numbers of their
+recalls, and behind each loan its own. A loan that was recalled is left out, with what was lent on from it,
+also where its pad has not heard of it yet.
+
+Example, who can read what after the requests of a file:
+  dock report --trace requests
+";
+
+const TREE: &str = "\
+dock tree [FROM] [--svg]
+
+Draws the report: the loans as a tree, and a map of the 256 sheets.
+
+  pad/program/ticket    who has it, and its number there; a taken grant behind its letter
+  sheets    a sheet of the store, or the first and the last of several
+  rights    r read, w write, p pass on, - for what is missing
+  map       16 sheets to a line, the letter of the taken grant or a dot for a free sheet
+  --svg     the same as an SVG picture
+
+Letters are A to Z, a to z, 0 to 9, and then from A again.
+
+Example, a picture of the dock after the requests of a file:
+  dock tree --svg --trace requests >ward.svg
+";
+
 fn text(command: &str) -> Option<&'static str> {
     match command {
         "trace" => Some(TRACE),
         "check" => Some(CHECK),
+        "report" => Some(REPORT),
+        "tree" => Some(TREE),
         "help" => Some(COMMANDS),
         _ => None,
     }

@@ -1,11 +1,14 @@
-//! The dock's command line: it reads files, calls one routine of the proved library, writes what that wrote, and says in words
-//! what was refused. It holds no rule of its own.
+//! The dock's command line: it reads files, calls one routine of the proved library, writes what that wrote, drawn by `tree`, and
+//! says in words what was refused. It holds no rule of its own.
 
 mod arguments;
 mod commands;
 mod failure;
 mod files;
 mod help;
+mod report;
+mod svg;
+mod tree;
 
 use failure::Failure;
 use std::{
@@ -35,6 +38,8 @@ fn run() -> Result<(), Failure> {
         Some(name) if words.iter().any(|word| word == "--help") => help::of(name),
         Some("trace") => commands::trace(words),
         Some("check") => commands::check(words),
+        Some("report") => commands::report(words),
+        Some("tree") => commands::tree(words),
         _ => Err(Failure::usage(format!("no command {}", command.display()))),
     }
 }
