@@ -84,6 +84,25 @@ static void trace_without_room(void)
     trace_into(0);
 }
 
+/* The report, into an output that every report fits into, and into none at all. */
+static size_t report_length;
+
+static void report_into(size_t output_length)
+{
+    static uint8_t scratch[DOCK_REPORT_SCRATCH];
+    result = dock_report(dock.tables, DOCK_TABLES, scratch, sizeof scratch, output, output_length, &report_length);
+}
+
+static void report(void)
+{
+    report_into(DOCK_REPORT_ROOM);
+}
+
+static void report_without_room(void)
+{
+    report_into(0);
+}
+
 static void *run(void *what)
 {
     (*(void (**)(void))what)();
@@ -109,7 +128,7 @@ static size_t depth(void (*what)(void))
     return ROOM - untouched;
 }
 
-static size_t thread_alone, most, most_of_traces;
+static size_t thread_alone, most, most_of_reports, most_of_traces;
 
 /* Measures a call, which must have this result, into the most of its sort. */
 static void measure_into(size_t *sort, const char *name, void (*what)(void), unsigned wanted)
@@ -152,8 +171,25 @@ static void measure_order(const char *name, unsigned wanted)
     measure("  dock_serve", serve, wanted);
     if (wanted != DOCK_ACCEPTED)
         measure("  dock_step", step, wanted);
+    measure_into(&most_of_reports, "  dock_report, no room", report_without_room, wanted == DOCK_ACCEPTED ? DOCK_TOO_SHORT : wanted);
+    measure_into(&most_of_reports, "  dock_report", report, wanted);
     measure_into(&most_of_traces, "  dock_trace, no room", trace_without_room, wanted == DOCK_ACCEPTED ? DOCK_TOO_SHORT : wanted);
     measure_into(&most_of_traces, "  dock_trace", trace, wanted);
+}
+
+/* The report of this dock has so many lines. */
+static void has_lines(unsigned wanted)
+{
+    unsigned lines = 0;
+    size_t i;
+
+    report();
+    for (i = 0; i < report_length; i++)
+        lines += output[i] == '\n';
+    if (lines != wanted) {
+        fprintf(stderr, "stack: a report of %u lines, not %u\n", lines, wanted);
+        exit(1);
+    }
 }
 
 /* Chains of loans, made by requests. */
@@ -247,6 +283,7 @@ static void use_chains(void)
     for (way = 0; way < WAYS; way++) {
         lend_on((enum way)way);
         measure_order(way_names[way], DOCK_ACCEPTED);
+        has_lines(2 + 1 + (way == ON_A_PAD ? LOANS_ON_A_PAD : LOANS)); /* the names, the root, the loans, the sheets */
         ask("read", read_last, DOCK_ACCEPTED);
         ask("recall of all loans", recall_all, DOCK_ACCEPTED);
         ask("use of a recalled loan", read_last, way == ON_A_PAD ? DOCK_NO_TICKET : DOCK_NO_ENTRY);
@@ -255,6 +292,20 @@ static void use_chains(void)
         ask("write", read_last, DOCK_ACCEPTED);
         ask("give back of all that was lent", by(root, DOCK_GIVE_BACK, root_ticket), DOCK_ACCEPTED);
     }
+}
+
+/* A taken grant in every place. */
+static void use_taken_grants(void)
+{
+    unsigned i;
+
+    empty();
+    for (i = 0; i < DOCK_ENTRIES; i++)
+        take_one(walked(i, 1));
+    root_ticket = 1;
+    root_sheet = 0;
+    measure_order("a taken grant in every place", DOCK_ACCEPTED);
+    has_lines(2 + DOCK_ENTRIES);
 }
 
 /* The tickets of a program, as the image has them. */
@@ -521,6 +572,8 @@ static void use_damaged_images(void)
         order();
         *(result == DOCK_ACCEPTED ? &in_order : &not_in_order) += 1;
         check();
+        report();
+        report_without_room();
         request = by(walked(below(32), 1), (uint16_t)(DOCK_RECALL + below(4)), (uint16_t)(1 + below(DOCK_PLACES)));
         serve();
         step();
@@ -534,6 +587,7 @@ int main(void)
     thread_alone = depth(nothing);
     measure("dock_empty", empty, DOCK_ACCEPTED);
     use_chains();
+    use_taken_grants();
     use_loans_off_the_pad();
     use_stale_chain();
     use_made_images();
@@ -542,6 +596,7 @@ int main(void)
         fprintf(stderr, "stack: %u images in order and %u not: too few of one sort\n", in_order, not_in_order);
         return 1;
     }
-    printf("stack: at most %zu bytes, dock_trace %zu; %u images not in order among those tried\n", most, most_of_traces, not_in_order);
-    return most <= DOCK_STACK && most_of_traces <= DOCK_TRACE_STACK ? 0 : 1;
+    printf("stack: at most %zu bytes, dock_report %zu, dock_trace %zu; %u images not in order among those tried\n", most, most_of_reports,
+           most_of_traces, not_in_order);
+    return most <= DOCK_STACK && most_of_reports <= DOCK_STACK && most_of_traces <= DOCK_TRACE_STACK ? 0 : 1;
 }
