@@ -527,6 +527,27 @@ static void refused_for_want(void)
     end();
 }
 
+/*
+ * Reports into an output of so many bytes, with a scratch of so many that is full of 255s: what is left is compared. After every
+ * result the scratch is zeros.
+ */
+static void reports(int line, size_t tables_length, size_t scratch_length, size_t room, unsigned result, const char *expected)
+{
+    uint8_t *image = block(tables_length, 0), *scratch = block(scratch_length, 255), *output = block(room, 7);
+    size_t of_tables = tables_length < DOCK_TABLES ? tables_length : DOCK_TABLES, length = 1;
+
+    memcpy(image, tables, of_tables);
+    equal(line, dock_report(image, tables_length, scratch, scratch_length, output, room, &length), result, "dock_report");
+    equal(line, length, strlen(expected), "the length of the report");
+    holds(line, memcmp(output, expected, length) == 0, "the report");
+    holds(line, all(output + length, room - length, 7), "the output behind it");
+    holds(line, all(scratch, scratch_length, 0), "the scratch after a report");
+    holds(line, memcmp(image, tables, of_tables) == 0, "the tables after a report");
+    free(image);
+    free(scratch);
+    free(output);
+}
+
 /* Each routine refuses these tables, and changes nothing. */
 static void not_in_order(int line)
 {
@@ -535,6 +556,7 @@ static void not_in_order(int line)
 
     equal(line, dock_in_order(tables, DOCK_TABLES), DOCK_NOT_IN_ORDER, "dock_in_order");
     equal(line, dock_check(tables, DOCK_TABLES, 0, 0, 1, 0, DOCK_RIGHT_READ), DOCK_NOT_IN_ORDER, "dock_check");
+    reports(line, DOCK_TABLES, DOCK_REPORT_SCRATCH, DOCK_REPORT_ROOM, DOCK_NOT_IN_ORDER, "");
     serve_one(line, take(nurse, 1, ALL), 7, DOCK_NOT_IN_ORDER, 0, 0);
     served = dock_serve(tables, DOCK_TABLES, store, DOCK_STORE, sheet, DOCK_SHEET, request, DOCK_REQUEST, answer,
                         DOCK_ANSWER);
@@ -586,13 +608,13 @@ static void names(void)
         const char *name = dock_result_name((uint16_t)number);
         if (strcmp(name, none) == 0)
             continue;
-        HOLDS(number <= DOCK_OTHER_FORM || number == DOCK_TOO_SHORT);
+        HOLDS(number <= DOCK_TOO_SHORT);
         HOLDS(name[0] != 0);
         for (i = 0; i < results; i++)
             HOLDS(strcmp(name, found[i]) != 0);
         found[results++] = name;
     }
-    EQUAL(results, DOCK_OTHER_FORM + 2); /* 0 to 15, and 17 */
+    EQUAL(results, DOCK_TOO_SHORT + 1); /* 0 to 17 */
     EQUAL(strcmp(dock_result_name(DOCK_ACCEPTED), "accepted"), 0);
     EQUAL(strcmp(dock_result_name(DOCK_NO_ENTRY), "the dock has no entry for the ticket"), 0);
     end();
@@ -896,7 +918,7 @@ static void tracing(void)
     start();
     traces(__LINE__, asked, strlen(asked), strlen(told), DOCK_TABLES - 1, DOCK_STORE, DOCK_LENGTH, "");
     traces(__LINE__, asked, strlen(asked), strlen(told), DOCK_TABLES, DOCK_STORE - 1, DOCK_LENGTH, "");
-    traces(__LINE__, asked, strlen(asked), strlen(told) - 1, DOCK_TABLES, DOCK_STORE, 17, "");
+    traces(__LINE__, asked, strlen(asked), strlen(told) - 1, DOCK_TABLES, DOCK_STORE, DOCK_TOO_SHORT, "");
     traces(__LINE__, asked, strlen(asked), strlen(told), DOCK_TABLES, DOCK_STORE, DOCK_ACCEPTED, told);
     /* The dock is as the last call left it. */
     equal(__LINE__, store[0], 65, "what was written");
@@ -908,6 +930,95 @@ static void tracing(void)
     traces(__LINE__, longest, DOCK_TRACE_INPUT + 1, 100, DOCK_TABLES, DOCK_STORE, DOCK_ACCEPTED, ANSWERED "0 15 0 0 0\n");
     tables[0] = 5;
     traces(__LINE__, asked, strlen(asked), DOCK_TRACE_ROOM, DOCK_TABLES, DOCK_STORE, DOCK_NOT_IN_ORDER, "");
+    end();
+}
+
+/* The report. */
+
+#define COLUMNS "depth pad program ticket first count rights\n"
+
+/* Scratches of other lengths have this result, with an output of no bytes too; other tables come first. */
+static void scratches(unsigned result)
+{
+    static const size_t lengths[] = {0, 1, DOCK_REPORT_SCRATCH - 1, DOCK_REPORT_SCRATCH + 1, 2 * DOCK_REPORT_SCRATCH};
+    size_t i;
+
+    for (i = 0; i < sizeof lengths / sizeof *lengths; i++) {
+        reports(__LINE__, DOCK_TABLES, lengths[i], DOCK_REPORT_ROOM, result, "");
+        reports(__LINE__, DOCK_TABLES, lengths[i], 0, result, "");
+        reports(__LINE__, 0, lengths[i], DOCK_REPORT_ROOM, DOCK_LENGTH, "");
+        reports(__LINE__, DOCK_TABLES - 1, lengths[i], DOCK_REPORT_ROOM, DOCK_LENGTH, "");
+        reports(__LINE__, DOCK_TABLES + 1, lengths[i], 0, DOCK_LENGTH, "");
+    }
+}
+
+/* The report of the tables is this text, with room for it or more; with less it is refused. Tables of another length come first. */
+static void is_report(int line, const char *text)
+{
+    const size_t whole = strlen(text);
+    const size_t enough[] = {whole, whole + 1, DOCK_REPORT_ROOM - 1, DOCK_REPORT_ROOM, DOCK_REPORT_ROOM + 1};
+    const size_t too_short[] = {0, 1, whole / 2, whole - 1};
+    size_t i;
+
+    for (i = 0; i < sizeof enough / sizeof *enough; i++)
+        reports(line, DOCK_TABLES, DOCK_REPORT_SCRATCH, enough[i], DOCK_ACCEPTED, text);
+    for (i = 0; i < sizeof too_short / sizeof *too_short; i++)
+        reports(line, DOCK_TABLES, DOCK_REPORT_SCRATCH, too_short[i], DOCK_TOO_SHORT, "");
+    reports(line, DOCK_TABLES - 1, DOCK_REPORT_SCRATCH, whole, DOCK_LENGTH, "");
+    reports(line, DOCK_TABLES + 1, DOCK_REPORT_SCRATCH, whole, DOCK_LENGTH, "");
+}
+
+/* A taken grant of one sheet in every place, with numbers of five digits. */
+static void many_grants(void)
+{
+    static char text[DOCK_REPORT_ROOM + 1];
+    char *end = text + sprintf(text, COLUMNS);
+    struct who who;
+    unsigned place, sheet_number = 0;
+
+    start();
+    for (who.pad = 0; who.pad < DOCK_PADS; who.pad++)
+        for (who.program = 0; who.program < DOCK_PROGRAMS; who.program++) {
+            put(last_at(who), 65535 - DOCK_PLACES);
+            for (place = 1; place <= DOCK_PLACES; place++) {
+                unsigned number = 65535 - DOCK_PLACES + place;
+                ACCEPTED(take(who, 1, ALL), number, 0);
+                end += sprintf(end, "0 %u %u %u %u 1 7\n", who.pad, who.program, number, sheet_number++);
+            }
+        }
+    sprintf(end, "%u 0\n", DOCK_SHEETS);
+    is_report(__LINE__, text);
+}
+
+static void reporting(void)
+{
+    const char *lent = COLUMNS "0 0 0 1 0 4 7\n1 0 1 1 0 2 5\n2 1 0 1 1 1 1\n1 2 3 1 2 2 7\n2 0 0 4 3 1 2\n"
+                               "0 1 0 2 4 2 2\n6 250\n";
+    const char *recalled = COLUMNS "0 0 0 1 0 4 7\n1 0 1 1 0 2 5\n2 1 0 1 1 1 1\n0 1 0 2 4 2 2\n6 250\n";
+
+    begin("report");
+    EQUAL(DOCK_REPORT_SCRATCH, DOCK_PADS * DOCK_PROGRAMS * DOCK_PLACES);
+    EQUAL(DOCK_REPORT_ROOM, strlen(COLUMNS "255 255\n") + DOCK_REPORT_SCRATCH * strlen("255 3 7 65535 255 256 7\n"));
+    start();
+    is_report(__LINE__, COLUMNS "0 256\n");
+    ACCEPTED(take(capture, 4, ALL), 1, 0);
+    ACCEPTED(pass(capture, 1, viewer, 0, 2, DOCK_RIGHT_READ + DOCK_RIGHT_PASS_ON), 2, 1);
+    ACCEPTED(pass(capture, 1, next, 2, 2, ALL), 3, 1);
+    ACCEPTED(pass(viewer, 1, nurse, 1, 1, DOCK_RIGHT_READ), 2, 1);
+    ACCEPTED(pass(next, 1, capture, 1, 1, DOCK_RIGHT_WRITE), 2, 4);
+    ACCEPTED(take(nurse, 2, DOCK_RIGHT_WRITE), 2, 0);
+    is_report(__LINE__, lent);
+    scratches(DOCK_SCRATCH);
+    ACCEPTED(recall(capture, 3), 0, 0); /* the grants of next and of capture stay on their pads until they are used */
+    is_report(__LINE__, recalled);
+    REFUSED(write_at(capture, 4, 0), DOCK_NO_ENTRY);
+    is_report(__LINE__, recalled);
+    put(ticket_at(__LINE__, capture, 1) + DOCK_TICKET_KIND_AT, DOCK_KIND_RECALL + 1);
+    scratches(DOCK_NOT_IN_ORDER);
+    start();
+    ACCEPTED(take(next, DOCK_SHEETS, DOCK_RIGHT_READ), 1, 0);
+    is_report(__LINE__, COLUMNS "0 2 3 1 0 256 1\n256 0\n");
+    many_grants();
     end();
 }
 
@@ -930,6 +1041,7 @@ int main(void)
     serving_many();
     names();
     tracing();
+    reporting();
     printf("constants: %u checks passed\n", passed);
     free(tables);
     free(store);
