@@ -1,12 +1,14 @@
 //! Times the proved library against the model on one machine, with the same requests from the same tables.
 //! `sh bench/run` builds and runs it.
 //!
-//! usage: bench [REQUESTS] [SEED] [FILL]     REQUESTS for each trace, usually 4000; FILL: only empty, light, mixed or full
+//! usage: bench [REQUESTS] [SEED] [FILL]     REQUESTS for each trace, usually 4000; FILL: only empty, light, mixed or full, or the reports
 //!
 //! Each figure is the best of several runs, in nanoseconds for one request. Every run begins with the same
 //! tables and store; they are put back before the clock starts, and all buffers are used again, so that no
 //! run pays for fresh memory. A trace is made once, from the model, and its mix keeps the tables about as
 //! full as they were: mostly reads and writes, some passes, recalls, takes and give backs, some refused.
+
+mod reports;
 
 use dock::{raw, ANSWER, REQUEST};
 use image::random::Rng;
@@ -290,6 +292,16 @@ fn growth(length: usize, seed: u64) -> bool {
     !agree.contains(&false)
 }
 
+/// Tables as full as those of the traces, and the reports that are deepest and longest; false where reports differ.
+fn show_reports(fills: &[(&'static str, usize)], seed: u64) -> bool {
+    let mut agree = true;
+    for &(fill, level) in fills {
+        agree &= reports::show(fill, &trace(fill, level, 0, seed).start);
+    }
+    agree &= reports::show("127 loans in a row", &reports::deepest());
+    agree & reports::show("256 taken grants", &reports::every_place())
+}
+
 fn main() -> ExitCode {
     let argument = |at, usual| env::args().nth(at).map_or(Some(usual), |text| text.parse::<u64>().ok());
     let (Some(length), Some(seed)) = (argument(1, 4000), argument(2, 1)) else {
@@ -305,6 +317,9 @@ fn main() -> ExitCode {
         .all(|&(fill, level)| show(&trace(fill, level, length as usize, seed)));
     if only.is_none() {
         agree &= growth(length as usize, seed);
+    }
+    if only.is_none_or(|name| name == "reports") {
+        agree &= show_reports(&fills, seed);
     }
     if !agree {
         return ExitCode::FAILURE;
