@@ -11,8 +11,9 @@
  *   - pointers to uint16_t are aligned;
  *   - the buffers of a call do not overlap;
  *   - one call at a time on the same buffers. Calls on other buffers may run beside it;
- *   - DOCK_STACK bytes of stack are left, DOCK_TRACE_STACK for dock_trace. These numbers are measured,
- *     not proved, and the library does not notice a stack that is too small;
+ *   - DOCK_STACK bytes of stack are left, DOCK_REPORT_STACK for dock_report, DOCK_TRACE_STACK for
+ *     dock_trace. These numbers are measured, not proved, and the library does not notice a stack that
+ *     is too small;
  *   - a dock is lent whole, tables and store together, and left alone between calls: a host that
  *     changes them begins a new sequence of requests;
  *   - pad and program of a request are those of its true sender. The library cannot know who asks.
@@ -51,14 +52,15 @@ extern "C" {
 #define DOCK_REPORT_ROOM 6196   /* bytes that every report fits into */
 
 /* The version that this header belongs to: major * 10000 + minor * 100 + patch. */
-#define DOCK_VERSION 20000
+#define DOCK_VERSION 20100
 
 /*
- * Bytes of stack that a call may take, its own frame included; dock_trace has its own number, because
- * it measures a trace on a copy of the dock. tests/stack.c measures at most 20,312 and 47,896, with
- * chains and rings of 256 entries; this is not proved.
+ * Bytes of stack that a call may take, its own frame included. dock_report has its own number, because
+ * it goes from loan to loan, up to 127 deep; dock_trace too, because it measures a trace on a copy of the
+ * dock. tests/stack.c measures at most 20,264, 34,104 and 47,896; this is not proved.
  */
 #define DOCK_STACK 32768
+#define DOCK_REPORT_STACK 49152
 #define DOCK_TRACE_STACK 65536
 
 /* How many there are. */

@@ -9,7 +9,7 @@ mod refusal;
 pub use refusal::Refusal;
 
 /// The version that this binding was written for: major * 10000 + minor * 100 + patch.
-pub const VERSION: u32 = 20_000;
+pub const VERSION: u32 = 20_100;
 
 /// Bytes of the tables' image.
 pub const TABLES: usize = 11_328;
@@ -26,8 +26,9 @@ pub const TRACE_INPUT: usize = 65_536;
 /// Bytes that every report fits into, and bytes of its scratch: one for each ticket place.
 pub const REPORT_ROOM: usize = 6_196;
 pub const REPORT_SCRATCH: usize = 256;
-/// Bytes of stack that a call may take, and that a trace may take: measured, not proved.
+/// Bytes of stack that a call may take, a report and a trace: measured, not proved.
 pub const STACK: usize = 32_768;
+pub const REPORT_STACK: usize = 49_152;
 pub const TRACE_STACK: usize = 65_536;
 
 /// Where everything stands in the tables' image, in bytes; include/dock.h has the table.

@@ -53,6 +53,7 @@ fn every_number_is_the_headers() {
     let lengths = numbers![
         dock::TABLES => "TABLES", dock::STORE => "STORE", dock::SHEET => "SHEET", dock::REQUEST => "REQUEST",
         dock::ANSWER => "ANSWER", dock::STACK => "STACK", dock::TRACE_STACK => "TRACE_STACK",
+        dock::REPORT_STACK => "REPORT_STACK",
         dock::VERSION => "VERSION", dock::TRACE_ROOM => "TRACE_ROOM", dock::TRACE_INPUT => "TRACE_INPUT",
         dock::REPORT_ROOM => "REPORT_ROOM", dock::REPORT_SCRATCH => "REPORT_SCRATCH",
         layout::PROGRAM_SIZE => "PROGRAM_SIZE", layout::TICKET_SIZE => "TICKET_SIZE", layout::LAST_AT => "LAST_AT",
