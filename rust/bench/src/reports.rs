@@ -22,6 +22,8 @@ pub fn show(what: &str, state: &State) -> bool {
     let model = repeat(&mut (), |()| state.report(REPORT_SCRATCH, REPORT_ROOM).is_ok());
     row(&format!("report, {what}: {} lines", wanted.lines().count()), roomy, model);
     row("  into an output as long as it is", tight, model);
+    let order = repeat(&mut (), |()| raw::in_order(&image) == 0);
+    row("  the order test in it", order, repeat(&mut (), |()| state.in_order()));
     if !agree {
         println!("  the reports differ");
     }
