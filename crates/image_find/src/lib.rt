@@ -47,12 +47,12 @@ pub fn ticket_place(image: &[u8], n: Name) -> usize
     if 7 < n.program {
         return 256;
     }
-    let from = 64 * image_places::wide(n.pad) + 8 * image_places::wide(n.program);
+    let start = 64 * image_places::wide(n.pad) + 8 * image_places::wide(n.program);
     let mut i: usize = 0;
     while i < 8 {
-        let k = image_read::ticket_at(image, from + i);
+        let k = image_read::ticket_at(image, start + i);
         if k.has_number(n.number) {
-            return from + i;
+            return start + i;
         }
         i = i + 1;
     }

@@ -1,7 +1,7 @@
 -- In tables in order the next number above `after` is the next name of the program's that pass, and where there is none all have been seen.
-use Prim.Native.Nat.{ℕ, suc, _+_, _*_, _/_, _%_, _≤_, _<_}
+use Prim.Native.Nat.{ℕ, _+_, _*_, _/_, _%_, _≤_, _<_}
 use native.Mathlib.Omega.{arith}
-use mathlib.Core.Path.{_≡_, refl, sym, ap, subst, _∙_}
+use mathlib.Core.Path.{_≡_, refl, sym, ap, _∙_}
 use mathlib.Core.Bool.{Bool, true, false}
 use mathlib.Core.List.{List, [], _∷_, _++_}
 use lib.ListN.{length, getD}
@@ -16,7 +16,7 @@ use Rattle.tables.proofs.ByPlace.{found-number}
 use Rattle.tables.proofs.ByNumber.{namesTo, names-next, names-all}
 use Rattle.preservation.specs.InOrder.{Shape}
 use Rattle.image_places.specs.Places.{placed, nameAt}
-use Rattle.image_places.proofs.Kept.{kept-low, kept-there, kept-pad, kept-program, found-there, kept-here}
+use Rattle.image_places.proofs.Kept.{kept-there, kept-pad, kept-program, found-there, kept-here}
 use Rattle.image_numbers.specs.Numbers.{numberIf, numbersIn, NextAbove}
 
 module _ (t : Tables) (shape : Shape t) (tickets : List Ticket) (same : (p : ℕ) → p < 256 → getD tickets p free ≡ placed t p)
@@ -97,7 +97,13 @@ module _ (t : Tables) (shape : Shape t) (tickets : List Ticket) (same : (p : ℕ
     below : (h : r < 8) (x : ℕ) → after < x → x < number r → test (lookup t (name x)) ≡ false
     below h x above under =
         cannot-pass _
-        (λ e. let a = among x e in omega (arith, under, next .least (omega (arith, h, numbers-long)) (a .at) (omega (arith, a .low, numbers-long)) (omega (arith, above, a .is)), a .is))
+        (λ e. let a = among x e in omega (
+          arith,
+          under,
+          next .least (omega (arith, h, numbers-long)) (a .at) (omega (arith, a .low, numbers-long))
+              (omega (arith, above, a .is)),
+          a .is,
+        ))
 
     pub next-above : r < 8 → after < number r
     next-above h = next .above (omega (arith, h, numbers-long))
@@ -110,4 +116,10 @@ module _ (t : Tables) (shape : Shape t) (tickets : List Ticket) (same : (p : ℕ
         → namesOf test t (program / 8) (program % 8) ≡ namesTo test t (program / 8) (program % 8) after
     next-none h given =
         names-all test t (program / 8) (program % 8) after given
-        (λ x above. cannot-pass _ (λ e. let a = among x e in omega (arith, above, next .none (omega (arith, h, numbers-long)) (a .at) (omega (arith, a .low, numbers-long)), a .is)))
+        (λ x above. cannot-pass _ (λ e. let a = among x e in omega (
+          arith,
+          above,
+          next .none (omega (arith, h, numbers-long)) (a .at)
+              (omega (arith, a .low, numbers-long)),
+          a .is,
+        )))

@@ -9,7 +9,7 @@ use lib.Dec.{ltb}
 use borrow.Author.Tests.{ltb-true, ltb-false}
 use Rattle.lists.specs.Lists.{keep}
 use Rattle.lists.specs.Parts.{tabulate, joined}
-use Rattle.lists.proofs.Tests.{Case, pass, fail, case, contradiction}
+use Rattle.lists.proofs.Tests.{Case, pass, fail, case}
 use Rattle.lists.specs.Members.{In, first, later, Once, none, more}
 
 split : (i n : ℕ) → i ≤ n → (i < n) ⊎ (i ≡ n)
@@ -123,7 +123,8 @@ module _ {A : Type 0} where
       ⊎-elim (λ j. (let r = from-joined n part a j in record { place = r .place; low = omega (arith, r .low); member = r .member }))
       (λ j. record { place = n; low = omega arith; member = j }) (in-either a (joined n part) (part n) i)
 
-  pub once-joined : (n : ℕ) (part : ℕ → List A) → ((i : ℕ) → Once (part i)) → ((i j : ℕ) (a : A) → In a (part i) → In a (part j) → i ≡ j) → Once (joined n part)
+  pub once-joined : (n : ℕ) (part : ℕ → List A) → ((i : ℕ) → Once (part i))
+      → ((i j : ℕ) (a : A) → In a (part i) → In a (part j) → i ≡ j) → Once (joined n part)
   unfolding joined
   once-joined zero part o apart = none
   once-joined (suc n) part o apart =
@@ -170,7 +171,8 @@ pub record Flat {A B : Type 0} (f : A → List B) (b : B) (xs : List A) : Type 0
 pub flat : {A B : Type 0} (f : A → List B) (b : B) (xs : List A) → In b (flatMap f xs) → Flat f b xs
 unfolding flatMap
 flat f b (x ∷ xs) i =
-    ⊎-elim (λ j. record { from = x; member = first refl; part = j }) (λ j. (let r = flat f b xs j in record { from = r .from; member = later (r .member); part = r .part }))
+    ⊎-elim (λ j. record { from = x; member = first refl; part = j }) (λ j. (let r = flat f b xs j in record
+    { from = r .from; member = later (r .member); part = r .part }))
     (in-either b (f x) (flatMap f xs) i)
 
 pub in-flat : {A B : Type 0} (f : A → List B) (b : B) (a : A) (xs : List A) → In a xs → In b (f a) → In b (flatMap f xs)
@@ -184,7 +186,8 @@ unfolding flatMap
 once-flat f g [] o each apart = none
 once-flat f g (x ∷ xs) (more out o) each apart =
     subst (λ (l : List _). Once l) (sym (map-append g (f x) (flatMap f xs)))
-    (once-append (map g (f x)) (map g (flatMap f xs)) (each x (first refl)) (once-flat f g xs o (λ a i. each a (later i)) (λ a a′ c i j. apart a a′ c (later i) (later j)))
+    (once-append (map g (f x)) (map g (flatMap f xs)) (each x (first refl)) (once-flat f g xs o (λ a i. each a (later i))
+    (λ a a′ c i j. apart a a′ c (later i) (later j)))
     (λ c i j. (let m = mapped g c (flatMap f xs) j in
     let p = flat f (m .from) xs (m .member) in
     let there : In c (map g (f (p .from))) = subst (λ (y : _). In y (map g (f (p .from)))) (sym (m .is)) (in-map g (m .from) (f (p .from)) (p .part)) in

@@ -2,8 +2,8 @@
 use Prim.Native.Nat.{ℕ, zero, suc, _+_, _≤_, _<_}
 use native.Mathlib.Omega.{arith}
 use mathlib.Core.Path.{_≡_, refl, sym, ap, subst, _∙_}
-use mathlib.Core.Logic.{_⊎_, inl, inr, ⊎-elim}
-use mathlib.Core.Bool.{Bool, true, false, not, _&&_, _||_, cond}
+use mathlib.Core.Logic.{_⊎_, ⊎-elim}
+use mathlib.Core.Bool.{Bool, true, false, not, _||_, cond}
 use mathlib.Core.List.{List, [], _∷_, _++_, flatMap}
 use lib.Dec.{eqb, leb, ltb}
 use lib.ListN.{length, getD}
@@ -12,9 +12,8 @@ use Rattle.lists.specs.Lists.{firstIndex, all, total, countBelow}
 use Rattle.lists.proofs.Tests.{Case, pass, fail, case, and-l, and-r, cannot-pass, contradiction, or-false-l, or-false-r}
 use Rattle.lists.proofs.Everywhere.{all-elim}
 use Rattle.lists.proofs.Keyed.{found-low, found-at}
-use Rattle.tables.specs.declared.{Name.Name, Ticket.Ticket, Entry.Entry, Tables.Tables}
-use Rattle.tables.specs.Kinds.{isTaken}
-use Rattle.tables.specs.Names.{noEntry, eqName, isNone}
+use Rattle.tables.specs.declared.{Name.Name, Entry.Entry, Tables.Tables}
+use Rattle.tables.specs.Names.{noEntry, eqName}
 use Rattle.tables.specs.Lookup.{lastOf, lookup, isNamed, entryIn, entryOf}
 use Rattle.tables.specs.Chains.{entryParent}
 use Rattle.tables.specs.Sheets.{apart, outside, isFreeSheet, sheetsFree}
@@ -22,16 +21,16 @@ use Rattle.tables.specs.Order.{underStore}
 use Rattle.tables.proofs.Keys.{entryKeys, entryLaws, entry-keyed}
 use Rattle.tables.proofs.NameLaws.{eqName-true, eqName-ne}
 use Rattle.tables.proofs.KindLaws.{taken-head, head-grant}
-use Rattle.preservation.specs.Rules.{Rules, Ends, here, up, Apart}
+use Rattle.preservation.specs.Rules.{Rules, Ends, here, up}
 use Rattle.preservation.specs.InOrder.{InOrder}
 use Rattle.preservation.proofs.SheetTests.{outside-of}
 use Rattle.preservation.proofs.RuleFacts.{taken-root}
-use Rattle.lists.specs.Members.{In, Once}
-use Rattle.report.specs.Rows.{Row, rowOf, loansOf, takenGrants, rowsFrom, rows}
+use Rattle.lists.specs.Members.{In}
+use Rattle.report.specs.Rows.{Row, loansOf, takenGrants, rowsFrom, rows}
 use Rattle.report.specs.Complete.{TakenAndFree}
 use Rattle.report.specs.Report.{takenIn}
 use Rattle.report.proofs.TakenGrants.{taken-is, in-taken, once-taken}
-use Rattle.lists.proofs.Counting.{one, sumBelow, sum-same, sum-add, sum-ones, count-sum, countIn, total-same, exchanged, count-none, count-one}
+use Rattle.lists.proofs.Counting.{one, sum-same, sum-add, sum-ones, count-sum, countIn, total-same, exchanged, count-none, count-one}
 use Rattle.report.proofs.Runs.{inRun, in-run, run-count}
 
 -- ---- the depth 0 lines are the taken grants
@@ -125,7 +124,8 @@ module _ (t : Tables) (o : InOrder t) (s : ℕ) where
   unfolding isFreeSheet entryIn isNamed
   nobody e n i = cannot-pass (has n) (λ p.
       (let l = entry-live n i in
-      let out : outside s 1 (entryOf t n) ≡ true = all-elim noEntry (outside s 1) (t .entries) e (firstIndex (isNamed n) (t .entries)) (found-low entryKeys entryLaws (t .entries) n l) in
+      let out : outside s 1 (entryOf t n) ≡ true = all-elim noEntry (outside s 1) (t .entries) e (firstIndex (isNamed n) (t .entries))
+      (found-low entryKeys entryLaws (t .entries) n l) in
       let h = entry-has n i p in
       ⊎-elim (λ a. omega (arith, a, h .low)) (λ b. omega (arith, b, h .high)) (outside-of s 1 (entryOf t n) out l)))
 
@@ -190,7 +190,8 @@ all-sheets t o =
     let run : Name → ℕ → Bool = λ n s. inRun (lookup t n .first) (lookup t n .count) s in
     let counts : total (λ n. lookup t n .count) L ≡ total (λ n. countBelow 256 (run n)) L =
     total-same (λ n. lookup t n .count) (λ n. countBelow 256 (run n)) L (λ n i.
-    sym (run-count (lookup t n .first) (lookup t n .count) 256 (o .rules .span n (head-grant (lookup t n .kind) (taken-head (lookup t n .kind) (taken-is t n i))) .fits))) in
+    sym (run-count (lookup t n .first) (lookup t n .count) 256 (o .rules .span n (head-grant (lookup t n .kind)
+    (taken-head (lookup t n .kind) (taken-is t n i))) .fits))) in
     (λ k. (taken-total t ∙ counts ∙ exchanged 256 run L) k + count-sum 256 (isFreeSheet (t .entries)) k)
     ∙ sum-add 256 (λ s. countIn (λ n. run n s) L) (λ s. one (isFreeSheet (t .entries) s))
     ∙ sum-same 256 (λ s. countIn (λ n. run n s) L + one (isFreeSheet (t .entries) s)) (λ s. 1) (λ s b. each-sheet t o s)

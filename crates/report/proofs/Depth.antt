@@ -1,22 +1,22 @@
 -- At which depth a grant is lent: one depth each, below 256, and every listed grant has one.
-use Prim.Native.Nat.{ℕ, zero, suc, _+_, _≤_, _<_}
+use Prim.Native.Nat.{ℕ, suc, _≤_, _<_}
 use native.Mathlib.Omega.{arith}
 use native.Mathlib.Nat.{le-of-suc-le-suc}
 use mathlib.Core.Path.{_≡_, refl, sym, ap, subst, _∙_}
-use mathlib.Core.Logic.{_⊎_, inl, inr, ⊎-elim}
-use mathlib.Core.Bool.{Bool, true, false, _&&_, cond}
+use mathlib.Core.Logic.{_⊎_, inl, inr}
+use mathlib.Core.Bool.{true, false, cond}
 use mathlib.Core.List.{List}
 use lib.Dec.{eqb}
-use borrow.Author.Tests.{eqb-true, eqb-false, ne-eqb}
-use Rattle.lists.proofs.Tests.{Case, pass, fail, case, and-l, and-r, and-intro, cannot-pass, contradiction}
+use borrow.Author.Tests.{eqb-true, eqb-false}
+use Rattle.lists.proofs.Tests.{Case, pass, fail, case, and-l, and-r, and-intro, contradiction}
 use Rattle.lists.proofs.Pigeonhole.{pigeonhole}
-use Rattle.tables.specs.declared.{Name.Name, Ticket.Ticket, Entry.Entry, Tables.Tables}
+use Rattle.tables.specs.declared.{Name.Name, Entry.Entry, Tables.Tables}
 use Rattle.tables.specs.Kinds.{isLive, isGrant, isHead, isTaken, isReceived, isChild, isRecall}
 use Rattle.tables.specs.Names.{isNone}
 use Rattle.tables.specs.Lookup.{lastOf, lookup, entryOf, placeOf}
 use Rattle.tables.specs.Chains.{ownName, parentOf, entryParent}
 use Rattle.tables.specs.Order.{underStore}
-use Rattle.tables.proofs.KindLaws.{live-grant, head-grant, taken-head, received-head, grant-sort, child-head, child-recall, received-taken}
+use Rattle.tables.proofs.KindLaws.{live-grant, head-grant, taken-head, received-head, grant-sort, child-head}
 use Rattle.preservation.specs.Rules.{Rules, Ends, here, up, Recalled}
 use Rattle.preservation.proofs.RuleFacts.{child-up, child-linked, taken-root}
 use Rattle.preservation.proofs.ChainSteps.{dock-named, has-chain}
@@ -67,7 +67,8 @@ module _ (t : Tables) (now : InOrder t) where
           let live′ : entryOf t (lookup t (a .by) .other) .live ≡ true = subst (λ (x : Name). entryOf t x .live ≡ true) (sym (a .target)) live in
           let f = rules .farEntry (a .by) (a .recall) other live′ in
           let p : entryOf t m .parent ≡ lookup t (ownName (a .by) (lookup t (a .by))) .dock = ap (λ (x : Name). entryOf t x .parent) (sym (a .target)) ∙ f .parent in
-          let named : isNone (lookup t (ownName (a .by) (lookup t (a .by))) .dock) ≡ false = dock-named t now (ownName (a .by) (lookup t (a .by))) (rules .recall (a .by) (a .recall) .grant) in
+          let named : isNone (lookup t (ownName (a .by) (lookup t (a .by))) .dock) ≡ false = dock-named t now (ownName (a .by) (lookup t (a .by)))
+          (rules .recall (a .by) (a .recall) .grant) in
           contradiction (taken-root (rules .entry m live) taken) (ap isNone p ∙ named)
 
   -- ---- one depth
@@ -106,7 +107,8 @@ module _ (t : Tables) (now : InOrder t) where
       pigeonhole 256 (suc d) (λ i. placeOf t (wayName l i))
       (λ i b. all-low t now (wayName l i) (live-at (way l i (le-of-suc-le-suc b))))
       (λ i j b c e. one-depth
-      (subst (λ (x : Name). Lent x i) (all-once t now (wayName l i) (wayName l j) (live-at (way l i (le-of-suc-le-suc b))) (live-at (way l j (le-of-suc-le-suc c))) e) (way l i (le-of-suc-le-suc b)))
+      (subst (λ (x : Name). Lent x i) (all-once t now (wayName l i) (wayName l j) (live-at (way l i (le-of-suc-le-suc b)))
+      (live-at (way l j (le-of-suc-le-suc c))) e) (way l i (le-of-suc-le-suc b)))
       (way l j (le-of-suc-le-suc c)))
 
   -- ---- every listed grant is lent at some depth: by the chain of its dock name's entry, and within it by the chain on its pad
@@ -122,7 +124,8 @@ module _ (t : Tables) (now : InOrder t) where
   lent-by r n e target l g = record { depth = suc (g .depth); at = loan (g .at) (in-loans t now r n e target l) }
 
   -- the head of a dock name, from those of its entry's parent
-  head-reached : (x : Name) → entryOf t x .live ≡ true → (underStore (entryOf t x) ≡ false → Docked (entryOf t x .parent)) → (n : Name) → isListed t n ≡ true → isHead (lookup t n .kind) ≡ true → n ≡ x → Reached n
+  head-reached : (x : Name) → entryOf t x .live ≡ true → (underStore (entryOf t x) ≡ false → Docked (entryOf t x .parent)) → (n : Name)
+      → isListed t n ≡ true → isHead (lookup t n .kind) ≡ true → n ≡ x → Reached n
   unfolding Docked
   head-reached x live above n l h z = go (case (underStore (entryOf t x)))
     where
@@ -132,7 +135,8 @@ module _ (t : Tables) (now : InOrder t) where
           let r = now .rules .lent x live e in
           let received : isReceived (lookup t x .kind) ≡ true = rules .entry x live .received e in
           let far : lookup t (r .by) .other .pad ≡ r .by .pad → ⊥ = λ q.
-          child-head (lookup t x .kind) (subst (λ (y : Name). isChild (lookup t y .kind) ≡ true) (r .target) (rules .near (r .by) (r .recall) q .child)) (received-head (lookup t x .kind) received) in
+          child-head (lookup t x .kind) (subst (λ (y : Name). isChild (lookup t y .kind) ≡ true) (r .target) (rules .near (r .by) (r .recall) q .child))
+          (received-head (lookup t x .kind) received) in
           let f = rules .farEntry (r .by) (r .recall) far (subst (λ (y : Name). entryOf t y .live ≡ true) (sym (r .target)) live) in
           let g : Name = ownName (r .by) (lookup t (r .by)) in
           let p : entryOf t x .parent ≡ lookup t g .dock = ap (λ (y : Name). entryOf t y .parent) (sym (r .target)) ∙ f .parent in

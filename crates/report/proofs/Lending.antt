@@ -1,29 +1,22 @@
 -- Who is lent by whom: a loan has one lender, and every listed grant is reached from a taken one.
-use Prim.Native.Nat.{ℕ, zero, suc, _+_, _≤_, _<_}
-use native.Mathlib.Omega.{arith}
 use mathlib.Core.Path.{_≡_, refl, sym, ap, subst, _∙_}
-use mathlib.Core.Logic.{_⊎_, inl, inr, ⊎-elim}
-use mathlib.Core.Bool.{Bool, true, false, _&&_}
-use mathlib.Core.List.{List, [], _∷_, map}
+use mathlib.Core.Bool.{true}
+use mathlib.Core.List.{List, map}
 use lib.Dec.{eqb}
 use borrow.Author.Tests.{eqb-true, eq-eqb}
-use Rattle.lists.proofs.Tests.{Case, pass, fail, case, and-l, and-r, and-intro, cannot-pass, contradiction}
-use Rattle.tables.specs.declared.{Name.Name, Ticket.Ticket, Entry.Entry, Tables.Tables}
-use Rattle.tables.specs.Kinds.{isLive, isGrant, isHead, isTaken, isReceived, isChild, isRecall}
-use Rattle.tables.specs.Names.{nameOf, isNone}
+use Rattle.lists.proofs.Tests.{pass, and-l, and-r, and-intro}
+use Rattle.tables.specs.declared.{Name.Name, Tables.Tables}
+use Rattle.tables.specs.Kinds.{isRecall}
 use Rattle.tables.specs.Lookup.{lastOf, lookup, entryOf, namesOf}
 use Rattle.tables.specs.Chains.{ownName, isRecallOf}
-use Rattle.tables.specs.Order.{underStore}
 use Rattle.tables.proofs.NameLaws.{name-eq}
-use Rattle.tables.proofs.KindLaws.{live-grant, live-recall, child-grant, head-grant, taken-head, grant-sort, child-head, child-recall, recall-head, grant-recall, received-taken}
-use Rattle.preservation.specs.Rules.{Rules, Ends, here, up, Recalled}
+use Rattle.tables.proofs.KindLaws.{live-recall}
+use Rattle.preservation.specs.Rules.{Rules, here, up}
 use Rattle.preservation.specs.InOrder.{InOrder}
-use Rattle.preservation.proofs.RuleFacts.{child-up, child-linked, taken-root}
-use Rattle.lists.specs.Members.{In, first, later, Once, none, more}
+use Rattle.lists.specs.Members.{In, Once}
 use Rattle.report.specs.Rows.{isListed, loansOf}
 use Rattle.lists.proofs.MemberLaws.{in-keep, kept, once-keep, mapped, in-map, once-map}
 use Rattle.tables.proofs.ByNumber.{named, in-names, once-names}
-use Rattle.report.proofs.TakenGrants.{taken-is, in-taken}
 
 module _ (t : Tables) (now : InOrder t) where
   abbrev rules : Rules (lookup t) (entryOf t) (lastOf t)
@@ -46,7 +39,8 @@ module _ (t : Tables) (now : InOrder t) where
       record {
         by = p .from;
         recall = and-l (isRecall (lookup t (p .from) .kind)) (eqb (lookup t (p .from) .own) (n .number)) (a .passes);
-        own = name-eq (a .on) (a .of) (eqb-true (lookup t (p .from) .own) (n .number) (and-r (isRecall (lookup t (p .from) .kind)) (eqb (lookup t (p .from) .own) (n .number)) (a .passes)));
+        own = name-eq (a .on) (a .of) (eqb-true (lookup t (p .from) .own) (n .number) (and-r (isRecall (lookup t (p .from) .kind))
+            (eqb (lookup t (p .from) .own) (n .number)) (a .passes)));
         target = sym (p .is);
         listed = k .passes;
       }

@@ -1,10 +1,10 @@
 -- Marks turn nobody away: in tables in order the walk with marks prints the report's rows, from marks that have nothing at or below the start.
-use Prim.Native.Nat.{ℕ, zero, suc, _+_, _≤_, _<_}
+use Prim.Native.Nat.{ℕ, zero, suc, _+_}
 use native.Mathlib.Omega.{arith}
 use mathlib.Core.Path.{_≡_, refl, sym, ap, subst, _∙_}
 use mathlib.Core.Logic.{_⊎_, inl, inr, ⊎-elim}
 use mathlib.Core.Bool.{Bool, true, false}
-use mathlib.Core.List.{List, [], _∷_, _++_, flatMap, append-assoc}
+use mathlib.Core.List.{List, [], _∷_, _++_, flatMap}
 use lib.Dec.{eqb}
 use borrow.Author.Tests.{eqb-true}
 use Rattle.lists.proofs.Tests.{Case, pass, fail, case, cannot-pass, contradiction}
@@ -13,8 +13,8 @@ use Rattle.tables.specs.Kinds.{isLive}
 use Rattle.tables.specs.Lookup.{lookup, placeOf}
 use Rattle.tables.proofs.KindLaws.{live-grant}
 use Rattle.lists.proofs.MemberLaws.{flat-flat}
-use Rattle.lists.specs.Members.{In, first, later, Once, none, more}
-use Rattle.report.specs.Rows.{Row, rowOf, loansOf, takenGrants, rowsFrom, rows}
+use Rattle.lists.specs.Members.{In, first, later, Once, more}
+use Rattle.report.specs.Rows.{rowOf, loansOf, takenGrants, rowsFrom, rows}
 use Rattle.report.specs.Report.{rowLine}
 use Rattle.preservation.specs.InOrder.{InOrder}
 use Rattle.report.specs.Marked.{Visit, visits, visit}
@@ -24,7 +24,7 @@ use Rattle.preservation.proofs.Places.{all-once}
 use Rattle.report.proofs.TakenGrants.{once-taken, taken-is}
 use Rattle.report.proofs.Lending.{once-loans}
 use Rattle.report.proofs.Depth.{Lent, root, loan, one-depth, lent-listed, listed-grant}
-use Rattle.report.proofs.Printed.{Down, here, Under, down-lent, above, one-top}
+use Rattle.report.proofs.Printed.{here, Under, down-lent, above, one-top}
 
 module _ (t : Tables) (now : InOrder t) where
   abbrev place : Name → ℕ
@@ -51,10 +51,13 @@ module _ (t : Tables) (now : InOrder t) where
     pub marked : (p : ℕ) → v .marks p ≡ true → (marks p ≡ true) ⊎ ((q : Name) × (x : Name) × In q qs × U q x × (p ≡ place x))
 
   abbrev One : ℕ → ℕ → Type 0
-  One left depth = (marks : ℕ → Bool) (n : Name) → L n depth → ((x : Name) → U n x → marks (place x) ≡ false) → Same marks n (text left depth n) (visit t left depth marks n)
+  One left depth =
+      (marks : ℕ → Bool) (n : Name) → L n depth → ((x : Name) → U n x → marks (place x) ≡ false)
+      → Same marks n (text left depth n) (visit t left depth marks n)
 
   module _ (left depth : ℕ) (one : One left depth) where
-    walk-all : (qs : List Name) (marks : ℕ → Bool) → Once qs → ((q : Name) → In q qs → L q depth) → ((q : Name) → In q qs → (x : Name) → U q x → marks (place x) ≡ false)
+    walk-all : (qs : List Name) (marks : ℕ → Bool) → Once qs → ((q : Name) → In q qs → L q depth)
+        → ((q : Name) → In q qs → (x : Name) → U q x → marks (place x) ≡ false)
         → SameAll marks qs (flatMap (text left depth) qs) (visits (visit t left depth) marks qs)
     unfolding visits flatMap
     walk-all [] marks _ lent clear = record { says = refl; marked = λ x h. inl h }
@@ -63,7 +66,8 @@ module _ (t : Tables) (now : InOrder t) where
         let l = walk-all qs (visit t left depth marks q .marks) rest (λ r i. lent r (later i)) (still-clear s) in
         record {
           says = (λ i. s .says i ++ l .says i);
-          marked = λ p h. ⊎-elim (λ m. ⊎-elim inl (λ b. inr (q, b .0, first refl, b .1, b .2)) (s .marked p m)) (λ r. inr (r .0, r .1, later (r .2), r .3, r .4)) (l .marked p h);
+          marked = λ p h. ⊎-elim (λ m. ⊎-elim inl (λ b. inr (q, b .0, first refl, b .1, b .2)) (s .marked p m))
+              (λ r. inr (r .0, r .1, later (r .2), r .3, r .4)) (l .marked p h);
         }
       where
         still-clear : Same marks q (text left depth q) (visit t left depth marks q)

@@ -1,20 +1,18 @@
 -- The rows of the report are the grants that are lent, each at its depth and once.
-use Prim.Native.Nat.{ℕ, zero, suc, _+_, _≤_, _<_}
+use Prim.Native.Nat.{ℕ, zero, suc, _+_, _<_}
 use native.Mathlib.Omega.{arith}
 use mathlib.Core.Path.{_≡_, refl, sym, ap, subst, _∙_}
-use mathlib.Core.Logic.{_⊎_, inl, inr, ⊎-elim, _↔_}
-use mathlib.Core.Bool.{Bool, true}
-use mathlib.Core.List.{List, [], _∷_, _++_, map, flatMap, map-append}
+use mathlib.Core.Bool.{true}
+use mathlib.Core.List.{List, map, flatMap}
 use Rattle.tables.specs.declared.{Name.Name, Tables.Tables}
-use Rattle.tables.specs.Lookup.{lookup}
 use Rattle.preservation.specs.InOrder.{InOrder}
 use Rattle.lists.specs.Members.{In, first, later, Once, none, more}
 use Rattle.report.specs.Rows.{Row, rowOf, isListed, loansOf, takenGrants, rowsFrom, rows}
 use Rattle.report.specs.Complete.{printed, PrintedOnce, PrintedListed}
-use Rattle.lists.proofs.MemberLaws.{Mapped, mapped, in-map, flat, in-flat, once-flat, once-append}
+use Rattle.lists.proofs.MemberLaws.{mapped, in-map, flat, in-flat, once-flat}
 use Rattle.report.proofs.TakenGrants.{taken-is, in-taken, once-taken}
 use Rattle.report.proofs.Lending.{once-loans, lender}
-use Rattle.report.proofs.Depth.{Lent, root, loan, one-depth, lent-listed, shallow, Reached, reached}
+use Rattle.report.proofs.Depth.{Lent, root, loan, one-depth, lent-listed, shallow, reached}
 
 module _ (t : Tables) (now : InOrder t) where
   abbrev pub L : Name → ℕ → Type 0
@@ -47,7 +45,8 @@ module _ (t : Tables) (now : InOrder t) where
       (first (λ k. rowOf (z k + 1) m)))
   next (suc left) depth top n m d i b (later j) =
       let p = flat (rowsFrom left t (depth + 1)) (rowOf d n) (loansOf t top) j in
-      later (in-flat (rowsFrom left t (depth + 1)) (rowOf (d + 1) m) (p .from) (loansOf t top) (p .member) (next left (depth + 1) (p .from) n m d i (omega arith) (p .part)))
+      later (in-flat (rowsFrom left t (depth + 1)) (rowOf (d + 1) m) (p .from) (loansOf t top) (p .member)
+      (next left (depth + 1) (p .from) n m d i (omega arith) (p .part)))
 
   lent-row : {n : Name} {d : ℕ} → L n d → In (rowOf d n) (rows t)
   unfolding rows rowsFrom
@@ -115,7 +114,8 @@ module _ (t : Tables) (now : InOrder t) where
           let m = mapped (λ (r : Row). r .name) n (flatMap (rowsFrom left t (depth + 1)) (loansOf t n)) i in
           let p = flat (rowsFrom left t (depth + 1)) (m .from) (loansOf t n) (m .member) in
           let u = row-under left (depth + 1) (p .from) (m .from) (p .part) in
-          let e : u .steps + (depth + 1) ≡ depth = one-depth t now (subst (λ (x : Name). L x (u .steps + (depth + 1))) (sym (m .is)) (down-lent (deeper (p .from) (p .member)) (u .way))) l in
+          let e : u .steps + (depth + 1) ≡ depth = one-depth t now (subst (λ (x : Name). L x (u .steps + (depth + 1))) (sym (m .is))
+          (down-lent (deeper (p .from) (p .member)) (u .way))) l in
           omega (arith, e)
 
 pub printed-once : PrintedOnce

@@ -1,18 +1,17 @@
 -- How long the report is: a row's line has at most 24 bytes, and the walk with marks prints at most one for each place that it marks.
 use Prim.Native.Nat.{ℕ, zero, suc, _+_, _*_, _≤_, _<_}
 use native.Mathlib.Omega.{arith}
-use mathlib.Core.Path.{_≡_, refl, sym, ap, _∙_}
+use mathlib.Core.Path.{_≡_, refl, ap}
 use mathlib.Core.Bool.{Bool, true, false}
-use mathlib.Core.List.{List, [], _∷_, _++_, flatMap}
+use mathlib.Core.List.{List, [], _∷_, flatMap}
 use lib.ListN.{length, length-append}
 use Rattle.lists.specs.Members.{In, first, later}
 use Rattle.lists.proofs.Tests.{Case, pass, fail, case}
-use Rattle.lists.proofs.MemberLaws.{kept}
 use Rattle.tables.specs.declared.{Name.Name, Ticket.Ticket, Tables.Tables}
-use Rattle.tables.specs.Lookup.{lookup, placeOf, namesOf}
+use Rattle.tables.specs.Lookup.{lookup, placeOf}
 use Rattle.tables.proofs.KindLaws.{live-grant}
 use Rattle.tables.specs.Sheets.{sheetsFree}
-use Rattle.text.specs.Bytes.{bytes, lineEnd}
+use Rattle.text.specs.Bytes.{bytes}
 use Rattle.text.specs.Writing.{places, valuesLine}
 use Rattle.text.proofs.WritingLaws.{places-1, places-short, places-most}
 use Rattle.text.proofs.WritingSteps.{length-line, line-none}

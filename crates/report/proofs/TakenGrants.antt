@@ -1,21 +1,19 @@
 -- The taken grants: who is among them, and that nobody is twice.
-use Prim.Native.Nat.{ℕ, zero, suc, _+_, _-_, _≤_, _<_}
+use Prim.Native.Nat.{ℕ, _-_}
 use native.Mathlib.Omega.{arith}
-use mathlib.Core.Path.{_≡_, refl, sym, ap, subst, _∙_}
+use mathlib.Core.Path.{_≡_, sym, _∙_}
 use mathlib.Core.Bool.{Bool, true}
 use mathlib.Core.List.{List}
-use Rattle.lists.specs.Parts.{tabulate, joined}
+use Rattle.lists.specs.Parts.{joined}
 use Rattle.tables.specs.declared.{Name.Name, Ticket.Ticket, Tables.Tables}
-use Rattle.tables.specs.Kinds.{isLive, isTaken}
-use Rattle.tables.specs.Names.{nameOf}
+use Rattle.tables.specs.Kinds.{isTaken}
 use Rattle.tables.specs.Lookup.{lastOf, lookup, entryOf, namesOf}
-use Rattle.tables.proofs.NameLaws.{name-eq}
 use Rattle.tables.proofs.KindLaws.{live-taken}
 use Rattle.preservation.specs.Rules.{Given, Rules}
 use Rattle.lists.specs.Members.{In, Once}
 use Rattle.report.specs.Rows.{takenGrants}
-use Rattle.lists.proofs.MemberLaws.{in-joined, Joined, from-joined, once-joined}
-use Rattle.tables.proofs.ByNumber.{Named, named, in-names, once-names}
+use Rattle.lists.proofs.MemberLaws.{in-joined, from-joined, once-joined}
+use Rattle.tables.proofs.ByNumber.{named, in-names, once-names}
 
 -- ---- the taken grants
 module _ (t : Tables) where

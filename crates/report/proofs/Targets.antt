@@ -4,8 +4,8 @@ use mathlib.Core.Path.{_≡_, sym, ap, _∙_}
 use mathlib.Core.Logic.{⊎-elim}
 use mathlib.Core.Bool.{true, false}
 use Rattle.lists.proofs.Tests.{cannot-pass, contradiction}
-use Rattle.tables.specs.declared.{Name.Name, Ticket.Ticket, Entry.Entry, Tables.Tables}
-use Rattle.tables.specs.Kinds.{isGrant, isHead, isChild, isRecall}
+use Rattle.tables.specs.declared.{Name.Name, Tables.Tables}
+use Rattle.tables.specs.Kinds.{isHead, isRecall}
 use Rattle.tables.specs.Lookup.{lookup, entryOf}
 use Rattle.tables.specs.Chains.{ownName}
 use Rattle.tables.proofs.KindLaws.{head-grant, child-grant, grant-sort}

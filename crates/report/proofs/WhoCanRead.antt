@@ -1,18 +1,18 @@
 -- "who can read what": the printed grants are those whose holder's read the dock lets through.
-use Prim.Native.Nat.{ℕ, _<_}
+use Prim.Native.Nat.{ℕ}
 use native.Mathlib.Omega.{arith}
-use mathlib.Core.Path.{_≡_, refl, sym, ap, subst, _∙_}
+use mathlib.Core.Path.{_≡_, refl, sym, subst, _∙_}
 use mathlib.Core.Logic.{_↔_}
-use mathlib.Core.Bool.{Bool, true, false, not}
+use mathlib.Core.Bool.{true, false, not}
 use lib.Dec.{leb}
-use borrow.Author.Tests.{leb-false, lt-leb, not-true, not-false}
+use borrow.Author.Tests.{leb-false, lt-leb, not-false}
 use Rattle.lists.proofs.Tests.{and-l, and-r, and-intro, cannot-pass}
 use Rattle.lists.specs.Tests.{between}
 use Rattle.rights.specs.Rules.{rightsOf, within}
 use Rattle.tables.specs.declared.Tables.{Tables}
 use Rattle.tables.specs.Names.{isProgram}
 use Rattle.tables.specs.Kinds.{isLive, isGrant, isRecall}
-use Rattle.tables.specs.Lookup.{lookup, entryOf}
+use Rattle.tables.specs.Lookup.{entryOf}
 use Rattle.tables.proofs.KindLaws.{grant-of, live-grant, grant-recall}
 use Rattle.machine.specs.declared.Request.{Request}
 use Rattle.machine.specs.State.{askedName, asked}

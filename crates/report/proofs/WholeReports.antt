@@ -1,11 +1,9 @@
 -- Reports after short traces, computed; the texts are those of an independent model of the rules.
 use mathlib.Core.Path.{_≡_, refl}
-use mathlib.Core.Bool.{true}
-use lib.ListN.{replicate}
 use Rattle.lists.specs.Tests.{implies, between}
 use Rattle.lists.specs.Lists.{firstIndex, all, keep, countBelow, some, noTwo, allAt, someAt, mapAt, least}
 use Rattle.rights.specs.Rules.{within}
-use Rattle.tables.specs.Names.{nameOf, eqName, isProgram, sameProgram, emptyTables}
+use Rattle.tables.specs.Names.{eqName, isProgram, sameProgram, emptyTables}
 use Rattle.tables.specs.Lookup.{hasNumber, ticketIn, lookup, isNamed, entryIn, namesOf}
 use Rattle.tables.specs.Chains.{reaches, endOf, isRecallOf}
 use Rattle.tables.specs.Sheets.{apart, inside, outside, isFreeRun, lowestRun, hasRun, isFreeSheet, sheetsFree}
@@ -21,7 +19,7 @@ use Rattle.machine.specs.GiveBack.{giveBackRefusal, giveBackTables, afterGiveBa
 use Rattle.machine.specs.Dock.{dockRefusal, dockCheck}
 use Rattle.machine.specs.Access.{accessRefusal, afterRead, afterWrite}
 use Rattle.machine.specs.Step.{ownRefusal, requestRefusal, lengthsOk, refusal, afterOwn, dropHead, outcome, step}
-use Rattle.machine.specs.Empty.{emptied, emptyStore, emptyDock}
+use Rattle.machine.specs.Empty.{emptied, emptyDock}
 use Prim.Native.Nat.{ℕ}
 use Prim.Native.String.{String}
 use mathlib.Core.List.{List, [], _∷_, _++_, flatMap}

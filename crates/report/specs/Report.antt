@@ -3,7 +3,7 @@ use Prim.Native.Nat.{ℕ, _+_, _*_}
 use mathlib.Core.Bool.{cond}
 use mathlib.Core.List.{List, [], _∷_, _++_, flatMap}
 use lib.Dec.{eqb}
-use Rattle.tables.specs.declared.{Ticket.Ticket, Tables.Tables}
+use Rattle.tables.specs.declared.{Tables.Tables}
 use Rattle.tables.specs.Lookup.{lookup}
 use Rattle.tables.specs.Sheets.{sheetsFree}
 use Rattle.text.specs.Bytes.{bytes, lineEnd}

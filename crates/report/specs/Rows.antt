@@ -5,7 +5,7 @@ use mathlib.Core.Bool.{Bool, _&&_}
 use mathlib.Core.List.{List, [], _∷_, map, flatMap}
 use Rattle.lists.specs.Lists.{keep}
 use Rattle.lists.specs.Parts.{joined}
-use Rattle.tables.specs.declared.{Name.Name, Ticket.Ticket, Tables.Tables}
+use Rattle.tables.specs.declared.{Name.Name, Tables.Tables}
 use Rattle.tables.specs.Kinds.{isGrant, isTaken}
 use Rattle.tables.specs.Chains.{isRecallOf}
 use Rattle.tables.specs.Lookup.{lookup, entryOf, namesOf}

@@ -3,7 +3,7 @@
 use Prim.Native.Nat.{ℕ, zero, suc, _+_, _-_, _≤_, _<_}
 use native.Mathlib.Omega.{arith}
 use mathlib.Core.Path.{_≡_, refl, sym, ap, subst, _∙_}
-use mathlib.Core.Bool.{Bool, true, false, cond}
+use mathlib.Core.Bool.{Bool, true, false}
 use mathlib.Core.List.{List, [], _∷_, _++_, append-nil, append-assoc}
 use Rattle.lists.specs.Lists.{keep}
 use Rattle.lists.specs.Parts.{tabulate}
@@ -74,14 +74,16 @@ module _ (test : Ticket → Bool) (t : Tables) (pad program : ℕ) where
       ap namesTo z ∙ pass-over (k + gap) (none (suc (k + gap)) (omega arith) (omega arith)) ∙ skip gap k (λ number a b. none number a (omega arith))
 
   -- the next one, and nobody between
-  pub names-next : (k m : ℕ) → k < m → passes m ≡ true → ((number : ℕ) → k < number → number < m → passes number ≡ false) → namesTo m ≡ namesTo k ++ nameOf pad program m ∷ []
+  pub names-next : (k m : ℕ) → k < m → passes m ≡ true → ((number : ℕ) → k < number → number < m → passes number ≡ false)
+      → namesTo m ≡ namesTo k ++ nameOf pad program m ∷ []
   unfolding keep
   names-next k m b e none =
       let z : suc (m - 1) ≡ m = omega arith in
       let y : k + (m - 1 - k) ≡ m - 1 = omega arith in
       let same : namesTo (m - 1) ≡ namesTo k = subst (λ (x : ℕ). namesTo x ≡ namesTo k) y (skip (m - 1 - k) k (λ number a c. none number a (omega arith))) in
       let e′ : passes (suc (m - 1)) ≡ true = ap passes z ∙ e in
-      subst (λ (x : ℕ). namesTo x ≡ namesTo k ++ nameOf pad program x ∷ []) z ((rw e′ at (one-more (m - 1))) ∙ ap (λ (l : List Name). l ++ nameOf pad program (suc (m - 1)) ∷ []) same)
+      subst (λ (x : ℕ). namesTo x ≡ namesTo k ++ nameOf pad program x ∷ []) z ((rw e′ at (one-more (m - 1)))
+      ∙ ap (λ (l : List Name). l ++ nameOf pad program (suc (m - 1)) ∷ []) same)
 
   -- the next live one does not pass, and nobody between does
   pub names-past : (k m : ℕ) → k ≤ m → ((number : ℕ) → k < number → number ≤ m → passes number ≡ false) → namesTo m ≡ namesTo k

@@ -13,7 +13,7 @@ use Rattle.lists.proofs.Counting.{total-append}
 use Rattle.tables.specs.declared.{Name.Name, Ticket.Ticket, Tables.Tables}
 use Rattle.tables.specs.Kinds.{isLive, isTaken}
 use Rattle.tables.specs.Names.{nameOf}
-use Rattle.tables.specs.Lookup.{lastOf, lookup, placeOf, namesOf}
+use Rattle.tables.specs.Lookup.{lastOf, lookup}
 use Rattle.tables.proofs.KindLaws.{live-taken}
 use Rattle.tables.proofs.ByNumber.{namesTo, names-front}
 use Rattle.image.specs.Image.{decode}
@@ -28,7 +28,7 @@ use Rattle.report.specs.Marked.{visit}
 use Rattle.report.proofs.Depth.{root, lent-listed}
 use Rattle.text_loans.specs.Walk.{Ordered, ticketIn, nameIn, Listed, Fits, Printed}
 use Rattle.text_loans.proofs.Places.{name-there, ticket-there, listed-of}
-use Rattle.text_loans.proofs.Steps.{Visited, visited-none, visited-as, visited-more, fewer, room-left}
+use Rattle.text_loans.proofs.Steps.{Visited, visited-none, visited-as, visited-more, room-left}
 use Rattle.text_grants.specs.declared.Printing.{Printing}
 use Rattle.text_grants.specs.Grants.{takenOf, sheetsOf, Ready, Puts}
 

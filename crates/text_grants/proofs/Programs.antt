@@ -1,5 +1,5 @@
 -- The loop over the 32 programs: the taken grants of those below `program` are printed; all of them are the taken grants.
-use Prim.Native.Nat.{ℕ, suc, _+_, _*_, _/_, _%_, _≤_, _<_}
+use Prim.Native.Nat.{ℕ, _+_, _/_, _%_, _≤_, _<_}
 use native.Mathlib.Omega.{arith}
 use native.Mathlib.Numerals.{add-one}
 use mathlib.Core.Path.{_≡_, refl, sym, ap, subst, _∙_}
@@ -12,7 +12,7 @@ use Rattle.lists.specs.Members.{In}
 use Rattle.lists.proofs.PartLaws.{joined-front, joined-eights}
 use Rattle.lists.proofs.MemberLaws.{from-joined}
 use Rattle.lists.proofs.Counting.{total-append}
-use Rattle.tables.specs.declared.{Name.Name, Ticket.Ticket, Tables.Tables}
+use Rattle.tables.specs.declared.{Name.Name, Tables.Tables}
 use Rattle.tables.specs.Kinds.{isTaken}
 use Rattle.tables.specs.Lookup.{lookup, namesOf}
 use Rattle.tables.proofs.ByNumber.{named}

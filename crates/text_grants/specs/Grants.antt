@@ -7,7 +7,6 @@ use Rattle.lists.specs.Lists.{total}
 use Rattle.tables.specs.declared.{Name.Name, Tables.Tables}
 use Rattle.tables.specs.Kinds.{isTaken}
 use Rattle.tables.specs.Lookup.{lookup, namesOf}
-use Rattle.image.specs.Image.{decode}
 use Rattle.text_marks.specs.Marks.{markBytes, markedIn, unmarked}
 use Rattle.report.specs.Report.{lineRoom, reportRoom}
 use Rattle.report.specs.Marked.{visits, visit}

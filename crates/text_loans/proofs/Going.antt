@@ -8,14 +8,13 @@ use lib.ListN.{length, getD}
 use Rattle.text.specs.Appending.{Countable}
 use Rattle.text_marks.specs.Marks.{markedIn, withMark, unmarked}
 use Rattle.text_marks.proofs.Laws.{one-less}
-use Rattle.tables.specs.declared.Name.{Name}
 use Rattle.image.specs.Image.{decode}
 use Rattle.image_numbers.specs.Numbers.{NextAbove}
 use Rattle.report.specs.Rows.{rowOf, loansOf}
 use Rattle.report.specs.Report.{rowLine, lineRoom}
 use Rattle.report.specs.Marked.{visit}
 use Rattle.report.proofs.Short.{row-short}
-use Rattle.text_loans.specs.Walk.{Ordered, ticketIn, nameIn, Listed, Lending, listedPlace, Fits, Printed}
+use Rattle.text_loans.specs.Walk.{ticketIn, nameIn, Lending, listedPlace, Fits, Printed}
 use Rattle.text_loans.proofs.Steps.{Visited, visited-none, visited-as, visited-more, fewer, room-left}
 use Rattle.text_loans.proofs.Loans.{recalls, last, loansTo, loans-none, loans-listed, loans-all, rises, given-next, lending, loan-more, loan-listed, loan-none}
 

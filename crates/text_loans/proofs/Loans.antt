@@ -1,11 +1,11 @@
 -- The loop over a grant's recalls, by their numbers: the loans up to the number that it has come to, and one more, or none.
-use Prim.Native.Nat.{ℕ, suc, _+_, _*_, _/_, _%_, _≤_, _<_}
+use Prim.Native.Nat.{ℕ, _+_, _*_, _/_, _%_, _≤_, _<_}
 use native.Mathlib.Omega.{arith}
 use mathlib.Core.Path.{_≡_, refl, sym, ap, subst, _∙_}
-use mathlib.Core.Bool.{Bool, true, false, _&&_, cond}
+use mathlib.Core.Bool.{Bool, true, false}
 use mathlib.Core.List.{List, [], _∷_, _++_, map, map-append, append-nil}
 use lib.Dec.{eqb}
-use lib.ListN.{length, getD}
+use lib.ListN.{getD}
 use borrow.Author.Tests.{eqb-true}
 use Rattle.lists.specs.Lists.{keep}
 use Rattle.lists.specs.Parts.{tabulate}
@@ -29,7 +29,7 @@ use Rattle.image_numbers.proofs.ByNumber.{Stands, stands, next-above, next-name
 use Rattle.report.specs.Rows.{isListed, loansOf}
 use Rattle.report.proofs.Depth.{listed-grant}
 use Rattle.text_loans.specs.Walk.{Ordered, ticketIn, nameIn, Kept, Listed, Lending, listedPlace}
-use Rattle.text_loans.proofs.Places.{found, name-there, ticket-there, kept-of, listed-of}
+use Rattle.text_loans.proofs.Places.{name-there, ticket-there, kept-of, listed-of}
 
 recall-live : (own : ℕ) (k : Ticket) → isRecallOf own k ≡ true → isLive (k .kind) ≡ true
 unfolding isRecallOf

@@ -1,23 +1,23 @@
 -- A ticket by its place: it is the one that its name finds; and the target of a recall, by the place of the recall.
-use Prim.Native.Nat.{ℕ, _+_, _*_, _/_, _%_, _≤_, _<_}
+use Prim.Native.Nat.{ℕ, _/_, _%_, _≤_, _<_}
 use native.Mathlib.Omega.{arith}
-use mathlib.Core.Path.{_≡_, refl, sym, ap, subst, _∙_}
-use mathlib.Core.Bool.{true, false, cond, _&&_}
+use mathlib.Core.Path.{_≡_, refl, sym, ap, _∙_}
+use mathlib.Core.Bool.{true, false}
 use mathlib.Core.List.{List, [], _∷_}
 use lib.Dec.{ltb}
-use lib.ListN.{length, getD}
-use borrow.Author.Tests.{ltb-true, ltb-false, lt-ltb, le-ltb}
+use lib.ListN.{getD}
+use borrow.Author.Tests.{ltb-true, ltb-false}
 use Rattle.lists.specs.Lists.{firstIndex}
 use Rattle.lists.proofs.Tests.{Case, pass, fail, case, and-l}
 use Rattle.lists.proofs.Search.{find-passes}
 use Rattle.tables.specs.declared.{Name.Name, Ticket.Ticket, Entry.Entry, Tables.Tables}
 use Rattle.tables.specs.Kinds.{isLive, isRecall}
-use Rattle.tables.specs.Names.{free, noEntry}
-use Rattle.tables.specs.Lookup.{lookup, placeOf, isNamed, entryIn, entryOf}
+use Rattle.tables.specs.Names.{noEntry}
+use Rattle.tables.specs.Lookup.{lookup, placeOf, isNamed, entryOf}
 use Rattle.tables.specs.Chains.{ownName}
 use Rattle.tables.proofs.KindLaws.{live-grant}
 use Rattle.image.specs.Image.{decode}
-use Rattle.image_read.specs.Places.{ticketsIn, entriesIn}
+use Rattle.image_read.specs.Places.{entriesIn}
 use Rattle.image_read.proofs.Places.{entries-long}
 use Rattle.image_places.specs.Places.{placed, nameAt}
 use Rattle.image_places.proofs.Kept.{kept-low, kept-there, kept-name}
@@ -29,7 +29,7 @@ use Rattle.report.specs.Rows.{isListed, rowOf}
 use Rattle.report.specs.Report.{rowLine}
 use Rattle.report.proofs.Depth.{listed-grant}
 use Rattle.report.proofs.Targets.{near-listed, far-listed, far-gone}
-use Rattle.text_loans.specs.Walk.{Ordered, ticketIn, nameIn, Kept, Listed, Lending, listedPlace}
+use Rattle.text_loans.specs.Walk.{ticketIn, nameIn, Kept, Listed, Lending, listedPlace}
 
 module _ (image : List ℕ) where
   abbrev t : Tables

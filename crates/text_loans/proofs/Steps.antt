@@ -4,7 +4,6 @@ use native.Mathlib.Omega.{arith}
 use mathlib.Core.Path.{_≡_, refl, sym, ap, subst, _∙_}
 use mathlib.Core.Bool.{Bool, true, false}
 use mathlib.Core.List.{List, [], _∷_, _++_, append-assoc, append-nil}
-use lib.ListN.{length}
 use Rattle.lists.specs.Members.{In}
 use Rattle.tables.specs.declared.{Name.Name, Tables.Tables}
 use Rattle.tables.specs.Lookup.{placeOf}

@@ -2,7 +2,6 @@
 // marked one is passed over; so the walk ends.
 ghost use Prim.Native.Nat.{_/_};
 ghost use mathlib.Core.Path.{_≡_};
-ghost use lib.ListN.{length};
 ghost use Rattle.image.specs.Image.{decode};
 ghost use Rattle.image_read.specs.Places.{ticketsIn};
 ghost use Rattle.image_numbers.specs.Numbers.{numbersIn};

@@ -8,10 +8,10 @@ use Rattle.image_find.proofs.ticket_place.Statement.{statement}
 use Rattle.image_find.proofs.ticket_place.Tie as tie
 
 abbrev Inv-loop : tie.InvT-loop
-Inv-loop image n from i₀ i = (i ≤ 8) × ((a : n .pad ≤ 3) (b : n .program ≤ 7) → Search image n a b i)
+Inv-loop image n start i₀ i = (i ≤ 8) × ((a : n .pad ≤ 3) (b : n .program ≤ 7) → Search image n a b i)
 
 abbrev μ-loop : tie.MeasureT-loop
-μ-loop image n from i₀ i = 8 - i
+μ-loop image n start i₀ i = 8 - i
 
 returns : tie.Need-returns Inv-loop μ-loop
 returns c =
@@ -26,17 +26,17 @@ returns-2 c =
 wide-requires : tie.Need-wide-requires Inv-loop μ-loop
 wide-requires c κs = search needs
 
-mul-from : tie.Need-mul-from Inv-loop μ-loop
-mul-from c = search needs
+mul-start : tie.Need-mul-start Inv-loop μ-loop
+mul-start c = search needs
 
 wide-requires-2 : tie.Need-wide-requires-2 Inv-loop μ-loop
 wide-requires-2 c κs = search needs
 
-mul-from-2 : tie.Need-mul-from-2 Inv-loop μ-loop
-mul-from-2 c = search needs
+mul-start-2 : tie.Need-mul-start-2 Inv-loop μ-loop
+mul-start-2 c = search needs
 
-add-from : tie.Need-add-from Inv-loop μ-loop
-add-from c = search needs
+add-start : tie.Need-add-start Inv-loop μ-loop
+add-start c = search needs
 
 loop-holds : tie.Need-loop-holds Inv-loop μ-loop
 loop-holds c = (omega arith, λ a b. omega arith)
@@ -124,10 +124,10 @@ ticket-place-spec =
     returns
     returns-2
     wide-requires
-    mul-from
+    mul-start
     wide-requires-2
-    mul-from-2
-    add-from
+    mul-start-2
+    add-start
     loop-holds
     add-ticket-at
     ticket-at-requires

@@ -1,5 +1,5 @@
 -- The taken grants with a number up to `after` are printed, and their sheets added.
-use Prim.Native.Nat.{ℕ, _-_}
+use Prim.Native.Nat.{_-_}
 use native.Mathlib.Omega.{arith}
 use borrow.Author.Needs.{needs}
 use Rattle.text_grants.proofs.Grants.{last, Going, going-none, going-end, going-rises, going-given, going-sheets, going-fits, going-more}
@@ -83,7 +83,8 @@ loop-again c =
     let c11 = c10 .before in
     let c18 = c11 .before .before .before .before .before .before .before in
     let p = c4 .put-ticket in
-    going-more _ _ _ _ _ _ _ _ _ _ _ _ (c11 .loop .inv) (c18 .pre .0) (c18 .pre .1 .0) (c18 .pre .1 .1) (c10 .loop-test .taken) _ (c8 .next-above2 .ensures) _ (c7 .count-at .ensures) _ _ _
+    going-more _ _ _ _ _ _ _ _ _ _ _ _ (c11 .loop .inv) (c18 .pre .0) (c18 .pre .1 .0) (c18 .pre .1 .1) (c10 .loop-test .taken) _
+    (c8 .next-above2 .ensures) _ (c7 .count-at .ensures) _ _ _
     (p .kept .1 .0) (p .kept .1 .1 .0) (p .ensures)
 
 same-length : tie.Need-same-length Inv-loop μ-loop

@@ -1,6 +1,5 @@
 -- The taken grants of the programs below `program` are printed.
 use Prim.Native.Nat.{_-_}
-use native.Mathlib.Omega.{arith}
 use borrow.Author.Needs.{needs}
 use Rattle.text_grants.proofs.Programs.{Round, round-none, round-end, round-ready, round-few, round-more}
 use Rattle.text_grants.proofs.put_taken.Statement.{statement}

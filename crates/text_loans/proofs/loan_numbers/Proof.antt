@@ -1,7 +1,6 @@
-use Prim.Native.Nat.{ℕ, _/_}
+use Prim.Native.Nat.{_/_}
 use native.Mathlib.Omega.{arith}
 use mathlib.Core.Path.{ap, _∙_}
-use borrow.Author.Needs.{needs}
 use Rattle.tables.specs.declared.Ticket.{Ticket}
 use Rattle.tables.specs.Chains.{isRecallOf}
 use Rattle.image_read.specs.Places.{ticketsIn}

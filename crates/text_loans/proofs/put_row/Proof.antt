@@ -4,7 +4,7 @@ use mathlib.Core.Path.{sym, subst}
 use mathlib.Core.List.{List}
 use lib.ListN.{length}
 use borrow.Author.Needs.{needs}
-use Rattle.text.specs.Appending.{Appends, highestCount}
+use Rattle.text.specs.Appending.{highestCount}
 use Rattle.text.proofs.Appending.{append-as}
 use Rattle.text_loans.proofs.Places.{row-values}
 use Rattle.text_loans.proofs.put_row.Statement.{statement}

@@ -3,7 +3,6 @@ use Prim.Native.Nat.{_-_, _≤_}
 use native.Mathlib.Omega.{arith}
 use mathlib.Core.Path.{_≡_, refl, _∙_}
 use lib.ListN.{length, replicate, length-set}
-use borrow.Author.Needs.{needs}
 use Rattle.lists.proofs.Front.{front, front-none, fill-more, fill-end}
 use Rattle.text_marks.proofs.clear.Statement.{statement}
 use Rattle.text_marks.proofs.clear.Tie as tie

@@ -5,7 +5,6 @@ use lib.ListN.{length, replicate}
 use borrow.Author.Needs.{needs}
 use borrow.Author.Tests.{not-true, not-false}
 use Rattle.lending.specs.Report.{reportBuffers}
-use Rattle.text_marks.specs.Marks.{markBytes}
 use Rattle.text_report.proofs.LentReport.{tables-bad, tables-ok, tested, clear-scratch, other-tables, bad-tables, other-scratch, too-short, whole}
 use Rattle.text_report.proofs.report_lent.Statement.{statement}
 use Rattle.text_report.proofs.report_lent.Tie as tie
