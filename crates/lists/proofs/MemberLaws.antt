@@ -203,3 +203,14 @@ pub flat-flat : {A B C : Type 0} (f : B → List C) (g : A → List B) (xs : Lis
 unfolding flatMap
 flat-flat f g [] = refl
 flat-flat f g (x ∷ xs) = flat-append f (g x) (flatMap g xs) ∙ ap (λ (l : List _). flatMap f (g x) ++ l) (flat-flat f g xs)
+
+-- ---- the same for every element
+module _ {A B : Type 0} where
+  pub map-same : (f g : A → B) (xs : List A) → ((a : A) → In a xs → f a ≡ g a) → map f xs ≡ map g xs
+  map-same f g [] same = refl
+  map-same f g (x ∷ xs) same = λ i. same x (first refl) i ∷ map-same f g xs (λ a j. same a (later j)) i
+
+  pub flat-same : (f g : A → List B) (xs : List A) → ((a : A) → In a xs → f a ≡ g a) → flatMap f xs ≡ flatMap g xs
+  unfolding flatMap
+  flat-same f g [] same = refl
+  flat-same f g (x ∷ xs) same = λ i. same x (first refl) i ++ flat-same f g xs (λ a j. same a (later j)) i

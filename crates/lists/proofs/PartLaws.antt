@@ -109,7 +109,7 @@ module _ {A : Type 0} (w : ℕ) where
 
 -- ---- parts of any width
 module _ {A : Type 0} where
-  joined-same : (n : ℕ) (f g : ℕ → List A) → ((i : ℕ) → i < n → f i ≡ g i) → joined n f ≡ joined n g
+  pub joined-same : (n : ℕ) (f g : ℕ → List A) → ((i : ℕ) → i < n → f i ≡ g i) → joined n f ≡ joined n g
   unfolding joined
   joined-same zero f g same = refl
   joined-same (suc n) f g same = (λ i. joined-same n f g (λ j h. same j (omega arith)) i ++ same n (omega arith) i)

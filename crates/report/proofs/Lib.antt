@@ -9,3 +9,4 @@ pub mod Marked
 pub mod WhoCanRead
 pub mod Short
 pub mod Targets
+pub mod SameReport

@@ -9,6 +9,7 @@ use Rattle.lists.specs.Members.{In, Once}
 use Rattle.rights.specs.Rules.{rightsOf, within}
 use Rattle.tables.specs.declared.{Name.Name, Tables.Tables}
 use Rattle.tables.specs.Names.{isProgram}
+use Rattle.tables.specs.Same.{SameTables}
 use Rattle.tables.specs.Sheets.{sheetsFree}
 use Rattle.machine.specs.declared.Request.{Request}
 use Rattle.machine.specs.State.{askedName, asked}
@@ -54,3 +55,7 @@ TakenAndFree = (t : Tables) → InOrder t → takenIn t (rows t) + sheetsFree (t
 -- ---- a buffer of that many bytes is never too short
 abbrev pub ReportShort : Type 0
 ReportShort = (t : Tables) → InOrder t → length (report t) ≤ reportRoom
+
+-- ---- where tickets and entries are kept does not count
+abbrev pub SameReport : Type 0
+SameReport = (t u : Tables) → InOrder t → InOrder u → SameTables t u → report t ≡ report u
