@@ -2,7 +2,7 @@
 use Prim.Native.Nat.{ℕ, zero, suc, _+_, _<_}
 use native.Mathlib.Omega.{arith}
 use mathlib.Core.Path.{_≡_, refl, sym, ap, _∙_}
-use mathlib.Core.Bool.{Bool, true, false, _&&_}
+use mathlib.Core.Bool.{Bool, true, _&&_}
 use mathlib.Core.List.{List, [], _∷_, _++_, map, flatMap}
 use lib.Dec.{eqb}
 use Rattle.lists.specs.Lists.{total, keep}
@@ -15,7 +15,7 @@ use Rattle.lists.proofs.Counting.{total-same}
 use Rattle.tables.specs.declared.{Name.Name, Ticket.Ticket, Tables.Tables}
 use Rattle.tables.specs.Kinds.{isGrant, isTaken, isRecall}
 use Rattle.tables.specs.Names.{nameOf}
-use Rattle.tables.specs.Lookup.{lastOf, lookup, entryOf, namesOf}
+use Rattle.tables.specs.Lookup.{lookup, entryOf, namesOf}
 use Rattle.tables.specs.Chains.{isRecallOf}
 use Rattle.tables.specs.Sheets.{sheetsFree}
 use Rattle.tables.specs.Same.{SameTables}

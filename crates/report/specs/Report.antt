@@ -25,7 +25,7 @@ unfoldable pub takenIn : Tables → List Row → ℕ
 takenIn t [] = 0
 takenIn t (r ∷ rs) = cond (eqb (r .depth) 0) (lookup t (r .name) .count) 0 + takenIn t rs
 
--- ---- the whole, "each line ended by byte 10"
+-- ---- the whole, "each line ended by byte 10"; "The second is counted sheet by sheet over all entries, and the two make 256."
 unfoldable pub report : Tables → List ℕ
 report t =
     let rs = rows t in

@@ -18,7 +18,8 @@ takenGrants t = joined 4 (λ pad. joined 8 (λ program. namesOf (λ k. isTaken (
 unfoldable pub isListed : Tables → Name → Bool
 isListed t n = let k = lookup t n in isGrant (k .kind) && entryOf t (k .dock) .live
 
--- "A grant's loans are the live targets of its recalls, by recall number; a target whose entry has gone is left out"
+-- "A grant's loans are the live targets of its recalls, by recall number; a target whose entry has gone is left out, with what hangs on it":
+-- the rows below go on from what is listed alone
 unfoldable pub loansOf : Tables → Name → List Name
 loansOf t n = keep (isListed t) (map (λ recall. lookup t recall .other) (namesOf (isRecallOf (n .number)) t (n .pad) (n .program)))
 
@@ -30,7 +31,8 @@ pub record Row : Type 0 where
 abbrev pub rowOf : ℕ → Name → Row
 rowOf depth n = record { depth = depth; name = n }
 
--- "A ticket's line is followed by its list of loans": as many loans one behind the other as there are places left
+-- "A ticket's line is followed by its list of loans, and each loan listed is again a ticket", as far as there are places left: 256 are more
+-- than a series of loans has (proofs/Depth, `shallow`)
 unfoldable pub rowsFrom : ℕ → Tables → ℕ → Name → List Row
 rowsFrom zero t depth n = []
 rowsFrom (suc left) t depth n = rowOf depth n ∷ flatMap (rowsFrom left t (depth + 1)) (loansOf t n)
