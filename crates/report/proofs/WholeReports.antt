@@ -7,8 +7,10 @@ use Rattle.tables.specs.Names.{eqName, isProgram, sameProgram, emptyTables}
 use Rattle.tables.specs.Lookup.{hasNumber, ticketIn, lookup, isNamed, entryIn, namesOf}
 use Rattle.tables.specs.Chains.{reaches, endOf, isRecallOf}
 use Rattle.tables.specs.Sheets.{apart, inside, outside, isFreeRun, lowestRun, hasRun, isFreeSheet, sheetsFree}
-use Rattle.tables.specs.Order.{everyTicketOf, everyTicket, someTicketOf, someTicket, everyEntry, numbersOk, t1, spanOk, t2, parentOk, childOk, t3, t4, entryNamesOk, grantOk, parentEntryOk, entryOk, rootsOk, t5, recallParentOk, isChildOf, farTargetOk, targetOk, recallOk, t6, inOrder}
-use Rattle.tables.specs.Change.{isFree, hasPlace, withTicket, withProgram, give, isSpare, putEntry, dropTicket, dropInProgram, dropInPad, dropTickets, dropEntry, dropEntries}
+use Rattle.tables.specs.Order.{everyTicketOf, everyTicket, someTicketOf, someTicket, everyEntry, numbersOk, t1, spanOk, t2, parentOk, childOk, t3, t4}
+use Rattle.tables.specs.Order.{entryNamesOk, grantOk, parentEntryOk, entryOk, rootsOk, t5, recallParentOk, isChildOf, farTargetOk, targetOk, recallOk, t6, inOrder}
+use Rattle.tables.specs.Change.{isFree, hasPlace, withTicket, withProgram, give, isSpare}
+use Rattle.tables.specs.Change.{putEntry, dropTicket, dropInProgram, dropInPad, dropTickets, dropEntry, dropEntries}
 use Rattle.machine.specs.State.{accepted, refused, withTables, sheetAt, putSheets, clearSheets}
 use Rattle.machine.specs.Refusal.{_when_else_, isSpent}
 use Rattle.machine.specs.Operation.{operationOf, usedBy, fieldOk, fieldsOk}
@@ -267,13 +269,34 @@ random34 =
     line 3 2 1 0 0 0 0 1 1 0 none ∷
     []
 
-pub record HandReports : Type 0 where
-  pub of-empty : report (leaves emptyDock empty .tables) ≡ ended ("depth pad program ticket first count rights" ∷ "0 256" ∷ [])
-  pub of-m1 : report (leaves emptyDock m1 .tables) ≡ ended ("depth pad program ticket first count rights" ∷ "0 0 0 1 0 4 7" ∷ "1 0 1 1 0 2 3" ∷ "1 1 0 1 2 2 1" ∷ "4 252" ∷ [])
-  pub of-ring : report (leaves emptyDock ring .tables) ≡ ended ("depth pad program ticket first count rights" ∷ "0 0 1 1 3 2 7" ∷ "1 1 0 1 3 2 7" ∷ "2 0 3 1 3 2 7" ∷ "3 0 1 3 3 1 5" ∷ "4 0 2 2 3 1 1" ∷ "1 0 2 1 4 1 3" ∷ "0 2 5 1 0 3 7" ∷ "5 251" ∷ [])
-  pub of-gone : report (leaves emptyDock gone .tables) ≡ ended ("depth pad program ticket first count rights" ∷ "0 0 0 1 0 4 7" ∷ "1 3 0 1 1 1 1" ∷ "4 252" ∷ [])
+-- the names, and a line for each
+abbrev pub names : String
+names = "depth pad program ticket first count rights"
 
-pub hand-reports : HandReports
+abbrev pub Reports : List Line → List String → Type 0
+Reports trace lines = report (leaves emptyDock trace .tables) ≡ ended (names ∷ lines)
+
+pub record WholeReports : Type 0 where
+  pub of-empty : Reports empty ("0 256" ∷ [])
+  pub of-m1 : Reports m1 ("0 0 0 1 0 4 7" ∷ "1 0 1 1 0 2 3" ∷ "1 1 0 1 2 2 1" ∷ "4 252" ∷ [])
+  pub of-ring : Reports ring ("0 0 1 1 3 2 7" ∷ "1 1 0 1 3 2 7" ∷ "2 0 3 1 3 2 7" ∷ "3 0 1 3 3 1 5" ∷ "4 0 2 2 3 1 1" ∷ "1 0 2 1 4 1 3" ∷
+      "0 2 5 1 0 3 7" ∷ "5 251" ∷ [])
+  pub of-gone : Reports gone ("0 0 0 1 0 4 7" ∷ "1 3 0 1 1 1 1" ∷ "4 252" ∷ [])
+  pub of-random3 : Reports random3 ("0 0 7 3 3 1 1" ∷ "0 0 7 4 94 18 4" ∷ "0 0 7 5 0 1 4" ∷ "1 2 2 5 0 1 4" ∷ "0 2 2 2 4 90 7" ∷
+      "1 0 7 6 4 90 7" ∷ "0 2 2 3 1 2 1" ∷ "0 2 2 6 112 10 7" ∷ "122 134" ∷ [])
+  pub of-random7 : Reports random7 ("0 0 5 3 8 4 7" ∷ "0 1 7 1 4 4 5" ∷ "0 2 3 1 0 3 7" ∷ "1 0 5 1 0 3 4" ∷ "2 2 5 2 0 3 4" ∷
+      "3 2 3 3 0 3 4" ∷ "4 1 7 2 0 3 4" ∷ "2 2 5 4 0 3 4" ∷ "3 2 3 5 0 3 4" ∷ "4 2 5 7 0 3 4" ∷ "3 1 7 3 0 3 4" ∷ "2 2 3 6 0 3 4" ∷
+      "0 2 5 1 3 1 2" ∷ "0 2 5 6 12 3 7" ∷ "15 241" ∷ [])
+  pub of-random11 : Reports random11 ("0 0 1 1 0 1 7" ∷ "1 2 0 5 0 1 7" ∷ "2 0 1 9 0 1 7" ∷ "0 0 1 2 2 1 7" ∷ "0 0 1 7 5 1 7" ∷
+      "0 0 1 8 6 1 7" ∷ "0 2 0 1 1 1 7" ∷ "1 0 1 3 1 1 7" ∷ "0 2 0 2 3 1 7" ∷ "0 2 0 4 4 1 7" ∷ "7 249" ∷ [])
+  pub of-random15 : Reports random15 ("0 3 3 1 0 1 5" ∷ "1 3 5 2 0 1 5" ∷ "2 3 7 1 0 1 5" ∷ "2 3 3 5 0 1 1" ∷ "2 3 3 6 0 1 4" ∷
+      "2 3 7 5 0 1 5" ∷ "3 3 3 8 0 1 5" ∷ "0 3 3 3 2 1 7" ∷ "0 3 3 7 6 1 7" ∷ "0 3 3 9 7 1 7" ∷ "0 3 5 1 1 1 6" ∷ "0 3 5 5 3 1 3" ∷
+      "0 3 5 7 4 1 7" ∷ "0 3 7 4 5 1 7" ∷ "0 3 7 7 8 1 7" ∷ "9 247" ∷ [])
+  pub of-random21 : Reports random21 ("0 1 1 3 2 1 1" ∷ "0 1 1 5 3 5 6" ∷ "6 250" ∷ [])
+  pub of-random34 : Reports random34 ("0 3 2 1 9 1 1" ∷ "0 3 3 1 0 1 1" ∷ "0 3 6 1 1 1 7" ∷ "0 3 6 3 2 1 3" ∷ "0 3 6 4 3 1 3" ∷
+      "0 3 6 5 4 1 3" ∷ "0 3 6 6 5 1 3" ∷ "0 3 6 7 6 1 3" ∷ "0 3 6 8 7 1 3" ∷ "0 3 6 9 8 1 3" ∷ "10 246" ∷ [])
+
+pub whole-reports : WholeReports
 unfolding implies between firstIndex all some noTwo allAt someAt mapAt least within
     eqName isProgram sameProgram emptyTables hasNumber ticketIn lookup isNamed entryIn reaches endOf
     apart inside outside isFreeRun lowestRun hasRun
@@ -286,56 +309,14 @@ unfolding implies between firstIndex all some noTwo allAt someAt mapAt least wit
     ownRefusal requestRefusal lengthsOk refusal afterOwn dropHead outcome step emptied emptyDock
     served leaves tabulate joined bytes digits places decimal behind valuesLine
     flatMap keep namesOf takenGrants isRecallOf isListed loansOf rowsFrom rows reportNames rowLine takenIn countBelow isFreeSheet sheetsFree report ended
-hand-reports = record {
+whole-reports = record {
   of-empty = refl;
   of-m1 = refl;
   of-ring = refl;
   of-gone = refl;
-}
-
-pub record RandomReports : Type 0 where
-  pub of-random3 : report (leaves emptyDock random3 .tables) ≡ ended ("depth pad program ticket first count rights" ∷ "0 0 7 3 3 1 1" ∷ "0 0 7 4 94 18 4" ∷ "0 0 7 5 0 1 4" ∷ "1 2 2 5 0 1 4" ∷ "0 2 2 2 4 90 7" ∷ "1 0 7 6 4 90 7" ∷ "0 2 2 3 1 2 1" ∷ "0 2 2 6 112 10 7" ∷ "122 134" ∷ [])
-  pub of-random7 : report (leaves emptyDock random7 .tables) ≡ ended ("depth pad program ticket first count rights" ∷ "0 0 5 3 8 4 7" ∷ "0 1 7 1 4 4 5" ∷ "0 2 3 1 0 3 7" ∷ "1 0 5 1 0 3 4" ∷ "2 2 5 2 0 3 4" ∷ "3 2 3 3 0 3 4" ∷ "4 1 7 2 0 3 4" ∷ "2 2 5 4 0 3 4" ∷ "3 2 3 5 0 3 4" ∷ "4 2 5 7 0 3 4" ∷ "3 1 7 3 0 3 4" ∷ "2 2 3 6 0 3 4" ∷ "0 2 5 1 3 1 2" ∷ "0 2 5 6 12 3 7" ∷ "15 241" ∷ [])
-  pub of-random11 : report (leaves emptyDock random11 .tables) ≡ ended ("depth pad program ticket first count rights" ∷ "0 0 1 1 0 1 7" ∷ "1 2 0 5 0 1 7" ∷ "2 0 1 9 0 1 7" ∷ "0 0 1 2 2 1 7" ∷ "0 0 1 7 5 1 7" ∷ "0 0 1 8 6 1 7" ∷ "0 2 0 1 1 1 7" ∷ "1 0 1 3 1 1 7" ∷ "0 2 0 2 3 1 7" ∷ "0 2 0 4 4 1 7" ∷ "7 249" ∷ [])
-
-pub random-reports : RandomReports
-unfolding implies between firstIndex all some noTwo allAt someAt mapAt least within
-    eqName isProgram sameProgram emptyTables hasNumber ticketIn lookup isNamed entryIn reaches endOf
-    apart inside outside isFreeRun lowestRun hasRun
-    everyTicketOf everyTicket someTicketOf someTicket everyEntry numbersOk t1 spanOk t2 parentOk childOk t3 t4
-    entryNamesOk grantOk parentEntryOk entryOk rootsOk t5 recallParentOk isChildOf farTargetOk targetOk recallOk t6 inOrder
-    isFree hasPlace withTicket withProgram give isSpare putEntry dropTicket dropInProgram dropInPad dropTickets dropEntry dropEntries
-    accepted refused withTables sheetAt putSheets clearSheets _when_else_ isSpent operationOf usedBy fieldOk fieldsOk
-    takeRefusal takeTables afterTake passRefusal passTables afterPass recallRefusal lentAway recallTables afterRecall
-    giveBackRefusal giveBackTables afterGiveBack dockRefusal dockCheck accessRefusal afterRead afterWrite
-    ownRefusal requestRefusal lengthsOk refusal afterOwn dropHead outcome step emptied emptyDock
-    served leaves tabulate joined bytes digits places decimal behind valuesLine
-    flatMap keep namesOf takenGrants isRecallOf isListed loansOf rowsFrom rows reportNames rowLine takenIn countBelow isFreeSheet sheetsFree report ended
-random-reports = record {
   of-random3 = refl;
   of-random7 = refl;
   of-random11 = refl;
-}
-
-pub record MoreReports : Type 0 where
-  pub of-random15 : report (leaves emptyDock random15 .tables) ≡ ended ("depth pad program ticket first count rights" ∷ "0 3 3 1 0 1 5" ∷ "1 3 5 2 0 1 5" ∷ "2 3 7 1 0 1 5" ∷ "2 3 3 5 0 1 1" ∷ "2 3 3 6 0 1 4" ∷ "2 3 7 5 0 1 5" ∷ "3 3 3 8 0 1 5" ∷ "0 3 3 3 2 1 7" ∷ "0 3 3 7 6 1 7" ∷ "0 3 3 9 7 1 7" ∷ "0 3 5 1 1 1 6" ∷ "0 3 5 5 3 1 3" ∷ "0 3 5 7 4 1 7" ∷ "0 3 7 4 5 1 7" ∷ "0 3 7 7 8 1 7" ∷ "9 247" ∷ [])
-  pub of-random21 : report (leaves emptyDock random21 .tables) ≡ ended ("depth pad program ticket first count rights" ∷ "0 1 1 3 2 1 1" ∷ "0 1 1 5 3 5 6" ∷ "6 250" ∷ [])
-  pub of-random34 : report (leaves emptyDock random34 .tables) ≡ ended ("depth pad program ticket first count rights" ∷ "0 3 2 1 9 1 1" ∷ "0 3 3 1 0 1 1" ∷ "0 3 6 1 1 1 7" ∷ "0 3 6 3 2 1 3" ∷ "0 3 6 4 3 1 3" ∷ "0 3 6 5 4 1 3" ∷ "0 3 6 6 5 1 3" ∷ "0 3 6 7 6 1 3" ∷ "0 3 6 8 7 1 3" ∷ "0 3 6 9 8 1 3" ∷ "10 246" ∷ [])
-
-pub more-reports : MoreReports
-unfolding implies between firstIndex all some noTwo allAt someAt mapAt least within
-    eqName isProgram sameProgram emptyTables hasNumber ticketIn lookup isNamed entryIn reaches endOf
-    apart inside outside isFreeRun lowestRun hasRun
-    everyTicketOf everyTicket someTicketOf someTicket everyEntry numbersOk t1 spanOk t2 parentOk childOk t3 t4
-    entryNamesOk grantOk parentEntryOk entryOk rootsOk t5 recallParentOk isChildOf farTargetOk targetOk recallOk t6 inOrder
-    isFree hasPlace withTicket withProgram give isSpare putEntry dropTicket dropInProgram dropInPad dropTickets dropEntry dropEntries
-    accepted refused withTables sheetAt putSheets clearSheets _when_else_ isSpent operationOf usedBy fieldOk fieldsOk
-    takeRefusal takeTables afterTake passRefusal passTables afterPass recallRefusal lentAway recallTables afterRecall
-    giveBackRefusal giveBackTables afterGiveBack dockRefusal dockCheck accessRefusal afterRead afterWrite
-    ownRefusal requestRefusal lengthsOk refusal afterOwn dropHead outcome step emptied emptyDock
-    served leaves tabulate joined bytes digits places decimal behind valuesLine
-    flatMap keep namesOf takenGrants isRecallOf isListed loansOf rowsFrom rows reportNames rowLine takenIn countBelow isFreeSheet sheetsFree report ended
-more-reports = record {
   of-random15 = refl;
   of-random21 = refl;
   of-random34 = refl;
