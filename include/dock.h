@@ -52,7 +52,7 @@ extern "C" {
 #define DOCK_REPORT_ROOM 6196   /* bytes that every report fits into */
 
 /* The version that this header belongs to: major * 10000 + minor * 100 + patch. */
-#define DOCK_VERSION 20100
+#define DOCK_VERSION 20101
 
 /*
  * Bytes of stack that a call may take, its own frame included. dock_report has its own number, because
@@ -80,7 +80,20 @@ enum dock_operation {
     DOCK_WRITE = 6      /* ticket, first: copies the sheet buffer into the sheet */
 };
 
-/* Rights, added together: 1 to 7. */
+/*
+ * Rights, added together: 1 to 7. Whether the rights asked lie within those held, bit by bit, is looked up
+ * in the rights chart, 1 for yes:
+ *
+ *     asked                  held 0 1 2 3 4 5 6 7
+ *     0 nothing                   1 1 1 1 1 1 1 1
+ *     1 read                      0 1 0 1 0 1 0 1
+ *     2 write                     0 0 1 1 0 0 1 1
+ *     3 read, write               0 0 0 1 0 0 0 1
+ *     4 pass on                   0 0 0 0 1 1 1 1
+ *     5 read, pass on             0 0 0 0 0 1 0 1
+ *     6 write, pass on            0 0 0 0 0 0 1 1
+ *     7 read, write, pass on      0 0 0 0 0 0 0 1
+ */
 enum dock_right {
     DOCK_RIGHT_READ = 1,   /* may read its sheets */
     DOCK_RIGHT_WRITE = 2,  /* may write on them */

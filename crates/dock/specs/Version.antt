@@ -2,4 +2,4 @@ use Prim.Native.Nat.{ℕ}
 
 -- 2.0.0, as major * 10000 + minor * 100 + patch
 abbrev pub version : ℕ
-version = 20100
+version = 20101

@@ -1,6 +1,21 @@
 // Rights: read is 1, write is 2, pass on is 4, added together.
+ghost use Prim.Native.Nat.{_%_};
 ghost use mathlib.Core.Path.{_≡_};
 ghost use Rattle.rights.specs.Rules.{rightsOf, within, canRead, canWrite, canPass};
+ghost use Rattle.rights.specs.Chart.{charted};
+
+// The printed chart, row behind row: rows the rights asked, columns the rights held, each 0 to 7; 1 where those asked lie within those
+// held. A word, since an array would be built anew in each call.
+const CHART: u64 = 0b11111111_01010101_00110011_00010001_00001111_00000101_00000011_00000001;
+
+// The chart's answer for the three bits of each number.
+fn charted(asked: u16, held: u16) -> bool
+    ensures { λ r. ⌜ r ≡ charted (asked % 8) (held % 8) ⌝ }
+{
+    let row = asked % 8;
+    let column = held % 8;
+    (CHART >> (63 - (8 * row + column))) % 2 == 1
+}
 
 // Any number is taken as it stands. Which numbers are good rights, 1 to 7, is for the tables' rule T2 and the request's ranges.
 pub struct Rights {
@@ -20,13 +35,11 @@ impl Rights {
         Rights { bits: number }
     }
 
-    // Does `self` have every right that `asked` has? A mask test on three bits.
+    // Does `self` have every right that `asked` has?
     pub fn contains(self, asked: Rights) -> bool
         ensures { λ r. ⌜ r ≡ within asked self ⌝ }
     {
-        let a = asked.bits % 8;
-        let h = self.bits % 8;
-        a & h == a
+        charted(asked.bits, self.bits)
     }
 
     pub fn can_read(self) -> bool
