@@ -1,12 +1,12 @@
 -- The chart is containment bit by bit: computed at the 64 pairs below 8, and carried to all numbers by their three low bits. The code has
 -- it as one word, whose 64 bits are the chart's answers.
-use Prim.Native.Nat.{ℕ, _+_, _-_, _*_, _/_, _%_, _^_, _<_}
+use Prim.Native.Nat.{ℕ, _+_, _*_, _/_, _%_, _^_, _<_}
 use native.Mathlib.Omega.{arith}
 use mathlib.Core.Path.{_≡_, refl, _∙_}
 use mathlib.Core.Bool.{Bool, true, Bool·beq}
-use mathlib.Core.List.{List, [], _∷_, map}
+use mathlib.Core.List.{List, [], _∷_}
 use lib.Dec.{eqb}
-use lib.ListN.{length, getD}
+use lib.ListN.{getD}
 use Rattle.lists.specs.Tests.{implies}
 use Rattle.lists.specs.Parts.{joined}
 use Rattle.lists.proofs.Below.{below, below-at, beq-eq}
@@ -59,19 +59,19 @@ pub charted-is-within : (a h : ℕ) → charted (a % 8) (h % 8) ≡ within (righ
 charted-is-within a h = chart-is-rule (a % 8) (h % 8) (omega arith) (omega arith) ∙ low a h
 
 -- ---- the code's word is the chart
--- the number with these binary digits, the first the highest, behind those of `so-far`
-unfoldable binary : ℕ → List ℕ → ℕ
-binary so-far [] = so-far
-binary so-far (x ∷ xs) = binary (2 * so-far + x) xs
+-- the number with these binary digits, the first the lowest
+unfoldable binary : List ℕ → ℕ
+binary [] = 0
+binary (x ∷ xs) = x + 2 * binary xs
 
--- the chart's digits, row behind row
+-- the chart's answers, row behind row
 unfoldable pub word : ℕ
 unfolding binary
-word = binary 0 (joined 8 (λ asked. getD chart asked []))
+word = binary (joined 8 (λ asked. getD chart asked []))
 
--- the bit at the pair's place, from the left
+-- the bit at the pair's place
 abbrev pub inWord : ℕ → ℕ → Bool
-inWord a h = eqb (word / 2 ^ (63 - (8 * a + h)) % 2) 1
+inWord a h = eqb (word / 2 ^ (8 * a + h) % 2) 1
 
 all-in-word : below 8 (λ a. below 8 (agree inWord charted a)) ≡ true
 unfolding word binary joined charted chart

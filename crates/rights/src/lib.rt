@@ -4,9 +4,9 @@ ghost use mathlib.Core.Path.{_≡_};
 ghost use Rattle.rights.specs.Rules.{rightsOf, within, canRead, canWrite, canPass};
 ghost use Rattle.rights.specs.Chart.{charted};
 
-// The printed chart, row behind row: rows the rights asked, columns the rights held, each 0 to 7; 1 where those asked lie within those
-// held. A word, since an array would be built anew in each call.
-const CHART: u64 = 0b11111111_01010101_00110011_00010001_00001111_00000101_00000011_00000001;
+// The printed chart: bit 8 * asked + held is 1 where the rights asked lie within those held, each 0 to 7. So its last row stands first and
+// each row is read from the right. A word, since an array would be built anew in each call.
+const CHART: u64 = 0b10000000_11000000_10100000_11110000_10001000_11001100_10101010_11111111;
 
 // The chart's answer for the three bits of each number.
 fn charted(asked: u16, held: u16) -> bool
@@ -14,7 +14,7 @@ fn charted(asked: u16, held: u16) -> bool
 {
     let row = asked % 8;
     let column = held % 8;
-    (CHART >> (63 - (8 * row + column))) % 2 == 1
+    (CHART >> (8 * row + column)) % 2 == 1
 }
 
 // Any number is taken as it stands. Which numbers are good rights, 1 to 7, is for the tables' rule T2 and the request's ranges.

@@ -66,7 +66,7 @@ pub const GIVE_BACK: u16 = 4;
 pub const READ: u16 = 5;
 pub const WRITE: u16 = 6;
 
-/// Rights are added together.
+/// Rights are added together. Which of them lie within which is the rights chart, in `dock.h`.
 pub mod rights {
     pub const READ: u16 = 1;
     pub const WRITE: u16 = 2;

@@ -14,9 +14,6 @@ mul-result c = search needs
 add-result : tie.Need-add-result
 add-result c = search needs
 
-sub-result : tie.Need-sub-result
-sub-result c = search needs
-
 cast-result : tie.Need-cast-result
 cast-result c = search needs
 
@@ -28,4 +25,4 @@ unfolding word joined chart
 returns c = word-is-chart (c .args .asked % 8) (c .args .held % 8) (omega arith) (omega arith)
 
 pub charted-spec : {M : Type 1} → statement M
-charted-spec = tie.close (tie.spec mul-result add-result sub-result cast-result shr-result returns)
+charted-spec = tie.close (tie.spec mul-result add-result cast-result shr-result returns)
