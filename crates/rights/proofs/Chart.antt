@@ -3,13 +3,13 @@
 use Prim.Native.Nat.{ℕ, _+_, _*_, _/_, _%_, _^_, _<_}
 use native.Mathlib.Omega.{arith}
 use mathlib.Core.Path.{_≡_, refl, _∙_}
-use mathlib.Core.Bool.{Bool, true, Bool·beq}
+use mathlib.Core.Bool.{Bool, true}
 use mathlib.Core.List.{List, [], _∷_}
 use lib.Dec.{eqb}
 use lib.ListN.{getD}
 use Rattle.lists.specs.Tests.{implies}
 use Rattle.lists.specs.Parts.{joined}
-use Rattle.lists.proofs.Below.{below, below-at, beq-eq}
+use Rattle.lists.proofs.Below.{agreeBelow, agree-at}
 use Rattle.rights.specs.Rules.{rightsOf, within}
 use Rattle.rights.specs.Chart.{chart, charted, ChartSquare, ChartIsRule}
 
@@ -17,25 +17,16 @@ pub chart-square : ChartSquare
 unfolding chart
 chart-square = refl
 
--- two tests of rights that are computed to agree at the 64 pairs below 8 are the same there
-abbrev agree : (one other : ℕ → ℕ → Bool) → ℕ → ℕ → Bool
-agree one other a h = Bool·beq (one a h) (other a h)
-
-at-64 : (one other : ℕ → ℕ → Bool) → below 8 (λ a. below 8 (agree one other a)) ≡ true → (a h : ℕ) → a < 8 → h < 8 → one a h ≡ other a h
-at-64 one other e a h p q =
-    let row = below-at 8 (λ k. below 8 (agree one other k)) e a p in
-    beq-eq (one a h) (other a h) (below-at 8 (agree one other a) row h q)
-
 -- ---- the chart is the rule
 abbrev ruled : ℕ → ℕ → Bool
 ruled a h = within (rightsOf a) (rightsOf h)
 
-all-64 : below 8 (λ a. below 8 (agree charted ruled a)) ≡ true
+all-64 : agreeBelow 8 8 charted ruled ≡ true
 unfolding charted chart within implies
 all-64 = refl
 
 pub chart-is-rule : ChartIsRule
-chart-is-rule = at-64 charted ruled all-64
+chart-is-rule = agree-at 8 8 charted ruled all-64
 
 -- the bits of a number are those of its three low bits
 half : (a : ℕ) → a % 8 / 2 % 2 ≡ a / 2 % 2
@@ -73,9 +64,9 @@ word = binary (joined 8 (λ asked. getD chart asked []))
 abbrev pub inWord : ℕ → ℕ → Bool
 inWord a h = eqb (word / 2 ^ (8 * a + h) % 2) 1
 
-all-in-word : below 8 (λ a. below 8 (agree inWord charted a)) ≡ true
+all-in-word : agreeBelow 8 8 inWord charted ≡ true
 unfolding word binary joined charted chart
 all-in-word = refl
 
 pub word-is-chart : (a h : ℕ) → a < 8 → h < 8 → inWord a h ≡ charted a h
-word-is-chart = at-64 inWord charted all-in-word
+word-is-chart = agree-at 8 8 inWord charted all-in-word

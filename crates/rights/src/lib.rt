@@ -35,7 +35,7 @@ impl Rights {
         Rights { bits: number }
     }
 
-    // Does `self` have every right that `asked` has?
+    // Does `self` have every right that `asked` has? The chart says it.
     pub fn contains(self, asked: Rights) -> bool
         ensures { λ r. ⌜ r ≡ within asked self ⌝ }
     {
