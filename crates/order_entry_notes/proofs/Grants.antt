@@ -3,7 +3,7 @@
 use Prim.Native.Nat.{ℕ, _<_}
 use native.Mathlib.Omega.{arith}
 use mathlib.Core.Path.{_≡_, sym, ap, subst, _∙_}
-use mathlib.Core.Bool.{Bool, true, cond}
+use mathlib.Core.Bool.{Bool, true, cond, _&&_}
 use mathlib.Core.List.{List}
 use lib.Dec.{eqb, ltb}
 use lib.ListN.{length, getD, List·getD-eq-default}
@@ -14,7 +14,7 @@ use Rattle.lists.proofs.Tests.{Case, pass, fail, case, cannot-pass, both-ways, 
 use Rattle.lists.proofs.Everywhere.{all-elim, noTwo-intro, noTwo-elim}
 use Rattle.lists.proofs.Keyed.{nothing-found}
 use Rattle.tables.specs.declared.{Name.Name, Ticket.Ticket, Entry.Entry, Tables.Tables}
-use Rattle.tables.specs.Names.{eqName, free, noEntry}
+use Rattle.tables.specs.Names.{noName, eqName, free, noEntry}
 use Rattle.tables.specs.Lookup.{ticketsOf, lookup}
 use Rattle.tables.specs.Order.{everyEntry, entryNamesOk, underStore, grantOk}
 use Rattle.tables.proofs.NameLaws.{eqName-false, eqName-ne}
@@ -34,13 +34,13 @@ pub record Suits (e : Entry) (k : Ticket) : Type 0 where
 pub suits : (e : Entry) (k : Ticket) → grantOk e k ≡ true → Suits e k
 unfolding grantOk
 suits e k g =
-    let kind : cond (underStore e) (isTaken (k .kind)) (isReceived (k .kind)) ≡ true = search (and-l, and-r) depth 5 in
+    let kind : cond (underStore e) (eqName (e .parent) noName && isTaken (k .kind)) (isReceived (k .kind)) ≡ true = search (and-l, and-r) depth 5 in
     let first : eqb (k .first) (e .first) ≡ true = search (and-l, and-r) depth 5 in
     let count : eqb (k .count) (e .count) ≡ true = search (and-l, and-r) depth 5 in
     record { head = go (case (underStore e)) kind; first = eqb-true (k .first) (e .first) first; count = eqb-true (k .count) (e .count) count }
   where
-    go : Case (underStore e) → cond (underStore e) (isTaken (k .kind)) (isReceived (k .kind)) ≡ true → isHead (k .kind) ≡ true
-    go (pass p) h = taken-head (k .kind) (rw p at h)
+    go : Case (underStore e) → cond (underStore e) (eqName (e .parent) noName && isTaken (k .kind)) (isReceived (k .kind)) ≡ true → isHead (k .kind) ≡ true
+    go (pass p) h = taken-head (k .kind) (and-r (eqName (e .parent) noName) (isTaken (k .kind)) (rw p at h))
     go (fail p) h = received-head (k .kind) (rw p at h)
 
 -- "Each names a live grant with equal sheets and rights"

@@ -12,11 +12,11 @@ use lib.Seq.{getD-set-same, getD-set-other}
 use borrow.Author.Tests.{eqb-true, eqb-false, eq-eqb}
 use borrow.Author.Count.{below-more}
 use Rattle.lists.specs.Tests.{implies}
-use Rattle.lists.proofs.Tests.{Case, pass, fail, case, contradiction, cannot-pass, cannot-fail, and-l, and-r, and-intro, implies-intro, implies-elim}
+use Rattle.lists.proofs.Tests.{Case, pass, fail, case, contradiction, cannot-pass, cannot-fail, and-l, and-r, and-intro, implies-intro, implies-elim, and-false}
 use Rattle.lists.proofs.Everywhere.{all-intro, all-elim, noTwo-intro, noTwo-elim}
 use Rattle.lists.proofs.Reading.{same-all}
 use Rattle.tables.specs.declared.{Ticket.Ticket, Entry.Entry}
-use Rattle.tables.specs.Names.{free, noEntry}
+use Rattle.tables.specs.Names.{noName, eqName, free, noEntry}
 use Rattle.tables.specs.Order.{underStore, grantOk}
 use Rattle.order_entry_notes.specs.Notes.{everyLive, placeOf, hasGrant, namesApart, Noter, NotesOf}
 
@@ -26,7 +26,7 @@ unfolding grantOk
 no-grant e = go (case (underStore e))
   where
     go : Case (underStore e) → grantOk e free ≡ false
-    go (pass p) = rw p
+    go (pass p) = rw (p, and-false (eqName (e .parent) noName))
     go (fail p) = rw p
 
 module _ (tickets : List Ticket) (numbers : List ℕ) where

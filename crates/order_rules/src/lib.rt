@@ -4,7 +4,7 @@ ghost use mathlib.Core.Path.{_≡_};
 ghost use mathlib.Core.Bool.{_&&_, cond};
 ghost use Rattle.lists.specs.Tests.{implies, between};
 ghost use Rattle.tables.specs.Kinds.{isTaken, isReceived};
-ghost use Rattle.tables.specs.Names.{eqName};
+ghost use Rattle.tables.specs.Names.{noName, eqName};
 ghost use Rattle.tables.specs.Sheets.{inside};
 ghost use Rattle.tables.specs.Order.{spanOk, parentOk, underStore, grantOk, parentEntryOk, recallParentOk, isChildOf};
 use rights::Rights;
@@ -115,10 +115,16 @@ pub fn parent_ok(n: Name, k: Ticket, parent: Ticket) -> bool
 
 // T5, taken if the parent is the store, else received.
 fn kind_ok(e: Entry, kind: Kind) -> bool
-    ensures { λ r. ⌜ r ≡ cond (underStore e) (isTaken kind) (isReceived kind) ⌝ }
+    ensures { λ r. ⌜ r ≡ cond (underStore e) (eqName (e .parent) noName && isTaken kind) (isReceived kind) ⌝ }
 {
     let up = e.parent;
     if up.number == 0 {
+        if up.pad != 0 {
+            return false;
+        }
+        if up.program != 0 {
+            return false;
+        }
         return kind.is_taken();
     }
     kind.is_received()

@@ -13,7 +13,7 @@ use Rattle.lists.proofs.Everywhere.{all-intro}
 use Rattle.lists.proofs.Keyed.{distinct-test, keys-no-two}
 use Rattle.rights.specs.declared.Rights.{Rights}
 use Rattle.tables.specs.declared.{Name.Name, Ticket.Ticket, Entry.Entry, Tables.Tables}
-use Rattle.tables.specs.Names.{nameOf, eqName, free, noProgram, noPad}
+use Rattle.tables.specs.Names.{noName, nameOf, eqName, free, noProgram, noPad}
 use Rattle.tables.specs.Lookup.{padAt, programAt, ticketsOf, lastOf, lookup, isNamed, entryIn, entryOf}
 use Rattle.tables.specs.Chains.{ownName, entryParent, chainRoot}
 use Rattle.tables.specs.Sheets.{apart}
@@ -45,8 +45,8 @@ grant-test e k o =
     and-intro (and-intro (and-intro (go (case (underStore e))) (eq-eqb (k .first) (e .first) (o .first))) (eq-eqb (k .count) (e .count) (o .count)))
     (eq-eqb (k .rights .bits) (e .rights .bits) (ap (λ (r : Rights). r .bits) (o .rights)))
   where
-    go : Case (underStore e) → cond (underStore e) (isTaken (k .kind)) (isReceived (k .kind)) ≡ true
-    go (pass z) = rw z (o .taken z)
+    go : Case (underStore e) → cond (underStore e) (eqName (e .parent) noName && isTaken (k .kind)) (isReceived (k .kind)) ≡ true
+    go (pass z) = rw z (and-intro (eqName-test (e .parent) noName (o .store z)) (o .taken z))
     go (fail z) = rw z (o .received z)
 
 parent-entry-test : (e p : Entry) → UnderOk e p → parentEntryOk e p ≡ true

@@ -254,7 +254,7 @@ module _ (t : Tables) (ok : InOrder t) (r : Request) (may : MayPass t r) where
       entryName = rw at-entry;
       entry =
           rw (at-entry, far .grant)
-          (record { taken = λ z. contradiction z named; received = λ z. refl; first = refl; count = refl; rights = refl });
+          (record { taken = λ z. contradiction z named; store = λ z. contradiction z named; received = λ z. refl; first = refl; count = refl; rights = refl });
       under = rw at-entry λ z. under-dock;
       entryChain = entry-chain;
       lent = λ z. record { by = x; recall = rw (far .recall); target = rw (far .recall) };

@@ -132,7 +132,7 @@ module _ (t : Tables) (ok : InOrder t) (r : Request) (may : MayTake t r) where
   new-entry-x : NewEntry (lookup t₂) (entryOf t₂) x
   new-entry-x = record {
     entryName = rw entry-x;
-    entry = rw (entry-x, ticket-x) (record { taken = λ h. refl; received = λ h. no-true (sym h); first = refl; count = refl; rights = refl });
+    entry = rw (entry-x, ticket-x) (record { taken = λ h. refl; store = λ h. refl; received = λ h. no-true (sym h); first = refl; count = refl; rights = refl });
     under = λ z. no-true (sym z ∙ ap underStore entry-x);
     entryChain = (0, here {n = x} (ap underStore entry-x));
     lent = λ z. no-true (sym z ∙ ap underStore entry-x);

@@ -54,12 +54,13 @@ parent-of n k p e =
 grant-of : (e : Entry) (k : Ticket) → grantOk e k ≡ true → EntryOk e k
 unfolding grantOk
 grant-of e k h =
-    let f₁ : cond (underStore e) (isTaken (k .kind)) (isReceived (k .kind)) ≡ true = search (and-l, and-r) depth 6 in
+    let f₁ : cond (underStore e) (eqName (e .parent) noName && isTaken (k .kind)) (isReceived (k .kind)) ≡ true = search (and-l, and-r) depth 6 in
     let f₂ : eqb (k .first) (e .first) ≡ true = search (and-l, and-r) depth 6 in
     let f₃ : eqb (k .count) (e .count) ≡ true = search (and-l, and-r) depth 6 in
     let f₄ : eqb (k .rights .bits) (e .rights .bits) ≡ true = search (and-l, and-r) depth 6 in
     record {
-      taken = λ z. rw z at f₁;
+      taken = λ z. and-r (eqName (e .parent) noName) (isTaken (k .kind)) (rw z at f₁);
+      store = λ z. eqName-true (e .parent) noName (and-l (eqName (e .parent) noName) (isTaken (k .kind)) (rw z at f₁));
       received = λ z. rw z at f₁;
       first = eqb-true (k .first) (e .first) f₂;
       count = eqb-true (k .count) (e .count) f₃;

@@ -9,7 +9,7 @@ use Rattle.rights.specs.declared.Rights.{Rights}
 use Rattle.rights.specs.Rules.{within, canPass}
 use Rattle.tables.specs.declared.{Name.Name, Ticket.Ticket, Entry.Entry}
 use Rattle.tables.specs.Kinds.{isLive, isGrant, isHead, isTaken, isReceived, isChild, isRecall}
-use Rattle.tables.specs.Names.{isNone}
+use Rattle.tables.specs.Names.{noName, isNone}
 use Rattle.tables.specs.Chains.{ownName, parentOf, entryParent}
 use Rattle.tables.specs.Order.{underStore}
 
@@ -54,6 +54,7 @@ pub record ChildOk (n : Name) (k p : Ticket) : Type 0 where
 -- T5, the entry e and the grant k of its name
 pub record EntryOk (e : Entry) (k : Ticket) : Type 0 where
   pub taken : underStore e ≡ true → isTaken (k .kind) ≡ true
+  pub store : underStore e ≡ true → e .parent ≡ noName
   pub received : underStore e ≡ false → isReceived (k .kind) ≡ true
   pub first : k .first ≡ e .first
   pub count : k .count ≡ e .count

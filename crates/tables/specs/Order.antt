@@ -8,7 +8,7 @@ use Rattle.lists.specs.Lists.{all, some, noTwo, allAt, someAt}
 use Rattle.rights.specs.Rules.{canPass}
 use Rattle.tables.specs.declared.{Name.Name, Kind.Kind, Ticket.Ticket, Program.Program, Entry.Entry, Tables.Tables}
 use Rattle.tables.specs.Kinds.{isLive, isGrant, isHead, isTaken, isReceived, isChild, isRecall}
-use Rattle.tables.specs.Names.{nameOf, eqName, isNone, isProgram}
+use Rattle.tables.specs.Names.{nameOf, noName, eqName, isNone, isProgram}
 use Rattle.tables.specs.Lookup.{lastOf, lookup, entryOf}
 use Rattle.tables.specs.Chains.{ownName, chainHead, chainRoot}
 use Rattle.tables.specs.Sheets.{apart, inside}
@@ -71,9 +71,10 @@ entryNamesOk t = noTwo (λ e. e .live) (λ e other. eqName (e .name) (other .nam
 abbrev pub underStore : Entry → Bool
 underStore e = isNone (e .parent)
 
+-- a parent with number 0 is the store where pad and program are 0 too, and else nothing
 unfoldable pub grantOk : Entry → Ticket → Bool
 grantOk e k =
-    cond (underStore e) (isTaken (k .kind)) (isReceived (k .kind))
+    cond (underStore e) (eqName (e .parent) noName && isTaken (k .kind)) (isReceived (k .kind))
     && eqb (k .first) (e .first) && eqb (k .count) (e .count) && eqb (k .rights .bits) (e .rights .bits)
 
 -- "A parent entry is live, has the pass on right and contains the entry's sheets and rights."
