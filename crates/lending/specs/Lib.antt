@@ -4,3 +4,4 @@ pub mod Batch
 pub mod Host
 pub mod Trace
 pub mod Report
+pub mod Saved

@@ -1,8 +1,10 @@
 -- The definitions on lists that the rules use: the first element that passes a test, all, some, those that pass, no two, a change at
--- every place, the least number that passes, how many pass, sums. A `let` is computed only where it is asked for: so a search stops where it succeeds.
+-- every place, places filled, elements by rising keys, the least number that passes, how many pass, sums. A `let` is computed only where it is
+-- asked for: so a search stops where it succeeds.
 use Prim.Native.Nat.{ℕ, zero, suc, _+_}
 use mathlib.Core.Bool.{Bool, true, false, not, _&&_, _||_, cond}
 use mathlib.Core.List.{List, [], _∷_}
+use lib.Dec.{leb}
 use Rattle.lists.specs.Tests.{implies}
 
 module _ {A : Type 0} where
@@ -25,6 +27,11 @@ module _ {A : Type 0} where
   unfoldable pub keep : (A → Bool) → List A → List A
   keep test [] = []
   keep test (x ∷ xs) = let rest = keep test xs in cond (test x) (x ∷ rest) rest
+
+  -- how many elements pass
+  unfoldable pub countOf : (A → Bool) → List A → ℕ
+  countOf test [] = 0
+  countOf test (x ∷ xs) = let rest = countOf test xs in cond (test x) (suc rest) rest
 
   -- the sum of a number of each
   unfoldable pub total : (A → ℕ) → List A → ℕ
@@ -53,6 +60,21 @@ module _ {A : Type 0} where
   unfoldable pub mapAt : (ℕ → A → A) → ℕ → List A → List A
   mapAt change i [] = []
   mapAt change i (x ∷ xs) = change i x ∷ mapAt change (suc i) xs
+
+  -- the first n elements, with `spare` where there are not so many
+  unfoldable pub filled : ℕ → A → List A → List A
+  filled zero spare xs = []
+  filled (suc n) spare [] = spare ∷ filled n spare []
+  filled (suc n) spare (x ∷ xs) = x ∷ filled n spare xs
+
+  -- by rising keys: each element put in front of the first whose key is not below its own
+  unfoldable pub putInto : (A → ℕ) → A → List A → List A
+  putInto key x [] = x ∷ []
+  putInto key x (y ∷ ys) = let later = putInto key x ys in cond (leb (key x) (key y)) (x ∷ y ∷ ys) (y ∷ later)
+
+  unfoldable pub sortedBy : (A → ℕ) → List A → List A
+  sortedBy key [] = []
+  sortedBy key (x ∷ xs) = putInto key x (sortedBy key xs)
 
 -- the least number that passes, from `start` on; `start + steps` where none of the first `steps` numbers does
 unfoldable pub least : (ℕ → Bool) → ℕ → ℕ → ℕ

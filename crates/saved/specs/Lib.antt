@@ -1,0 +1,4 @@
+pub mod Row
+pub mod Save
+pub mod Load
+pub mod Claims
