@@ -176,7 +176,16 @@ pub fn append_row(out: &mut [u8], at: usize, r: Row) -> usize
 {
     let o = r.other;
     let values = [
-        r.kind, r.pad, r.program, r.number, r.own, o.pad, o.program, o.number, r.first, r.count,
+        r.kind,
+        r.pad,
+        r.program,
+        r.number,
+        r.own,
+        o.pad,
+        o.program,
+        o.number,
+        r.first,
+        r.count,
         r.rights,
     ];
     text::append_values(out, at, &values)
