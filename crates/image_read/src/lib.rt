@@ -59,7 +59,8 @@ fn name_at(bytes: &[u8], at: usize) -> Name
     }
 }
 
-fn kind_of(n: u16) -> Kind
+// The kind that a number says.
+pub fn kind_of(n: u16) -> Kind
     ensures { λ r. ⌜ r ≡ kindOf n ⌝ }
 {
     match n {
