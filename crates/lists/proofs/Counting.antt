@@ -6,7 +6,7 @@ use mathlib.Core.Bool.{Bool, true, false, cond}
 use mathlib.Core.List.{List, [], _∷_, _++_}
 use Rattle.lists.proofs.Tests.{Case, pass, fail, case}
 use Rattle.lists.specs.Members.{In, first, later, Once, none, more}
-use Rattle.lists.specs.Lists.{total, countBelow}
+use Rattle.lists.specs.Lists.{countOf, total, countBelow}
 
 abbrev pub one : Bool → ℕ
 one b = cond b 1 0
@@ -70,9 +70,13 @@ count-most (suc n) f = go (f n) (count-most n f)
 
 -- ---- over a list
 module _ {A : Type 0} where
-  unfoldable pub countIn : (A → Bool) → List A → ℕ
-  countIn test [] = 0
-  countIn test (x ∷ xs) = one (test x) + countIn test xs
+  count-front : (test : A → Bool) (x : A) (xs : List A) → countOf test (x ∷ xs) ≡ one (test x) + countOf test xs
+  unfolding countOf
+  count-front test x xs = go (test x)
+    where
+      go : (b : Bool) → cond b (suc (countOf test xs)) (countOf test xs) ≡ one b + countOf test xs
+      go true = omega arith
+      go false = omega arith
 
   pub total-append : (f : A → ℕ) (xs ys : List A) → total f (xs ++ ys) ≡ total f xs + total f ys
   unfolding total
@@ -85,23 +89,24 @@ module _ {A : Type 0} where
   total-same f g (x ∷ xs) h = let e = total-same f g xs (λ y i. h y (later i)) in omega (arith, e, h x (first refl))
 
   -- the two sums exchanged
-  pub exchanged : (n : ℕ) (test : A → ℕ → Bool) (xs : List A) → total (λ x. countBelow n (test x)) xs ≡ sumBelow n (λ i. countIn (λ x. test x i) xs)
-  unfolding total countIn
+  pub exchanged : (n : ℕ) (test : A → ℕ → Bool) (xs : List A) → total (λ x. countBelow n (test x)) xs ≡ sumBelow n (λ i. countOf (λ x. test x i) xs)
+  unfolding total countOf
   exchanged n test [] = sym (sum-zeros n)
   exchanged n test (x ∷ xs) =
-      (λ k. count-sum n (test x) k + exchanged n test xs k) ∙ sum-add n (λ i. one (test x i)) (λ i. countIn (λ y. test y i) xs)
+      (λ k. count-sum n (test x) k + exchanged n test xs k) ∙ sum-add n (λ i. one (test x i)) (λ i. countOf (λ y. test y i) xs)
+      ∙ sym (sum-same n _ _ (λ i b. count-front (λ y. test y i) x xs))
 
   -- none, where nobody passes; one, where one passes and nobody else
-  pub count-none : (test : A → Bool) (xs : List A) → ((x : A) → In x xs → test x ≡ false) → countIn test xs ≡ 0
-  unfolding countIn
+  pub count-none : (test : A → Bool) (xs : List A) → ((x : A) → In x xs → test x ≡ false) → countOf test xs ≡ 0
+  unfolding countOf
   count-none test [] h = refl
-  count-none test (x ∷ xs) h = (λ k. one (h x (first refl) k) + count-none test xs (λ y i. h y (later i)) k)
+  count-none test (x ∷ xs) h = rw (h x (first refl)) (count-none test xs (λ y i. h y (later i)))
 
   pub count-one : (test : A → Bool) (xs : List A) → Once xs → (a : A) → In a xs → test a ≡ true
-      → ((x : A) → In x xs → test x ≡ true → x ≡ a) → countIn test xs ≡ 1
-  unfolding countIn
+      → ((x : A) → In x xs → test x ≡ true → x ≡ a) → countOf test xs ≡ 1
+  unfolding countOf
   count-one test (x ∷ xs) (more out o) a (first e) p only =
-      (λ k. one ((ap test (sym e) ∙ p) k) + count-none test xs (λ y i. go y i (case (test y))) k)
+      rw (ap test (sym e) ∙ p) (ap suc (count-none test xs (λ y i. go y i (case (test y)))))
     where
       go : (y : A) → In y xs → Case (test y) → test y ≡ false
       go y i (fail z) = z
@@ -110,6 +115,6 @@ module _ {A : Type 0} where
       let rest = count-one test xs o a i p (λ y j q. only y (later j) q) in
       go (case (test x)) rest
     where
-      go : Case (test x) → countIn test xs ≡ 1 → one (test x) + countIn test xs ≡ 1
-      go (fail z) rest = (λ k. one (z k) + rest k)
+      go : Case (test x) → countOf test xs ≡ 1 → cond (test x) (suc (countOf test xs)) (countOf test xs) ≡ 1
+      go (fail z) rest = rw z rest
       go (pass z) rest = absurd (out (subst (λ (b : A). In b xs) (sym (only x (first refl) z)) i))

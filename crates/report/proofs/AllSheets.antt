@@ -8,7 +8,7 @@ use mathlib.Core.List.{List, [], _∷_, _++_, flatMap}
 use lib.Dec.{eqb, leb, ltb}
 use lib.ListN.{length, getD}
 use borrow.Author.Tests.{leb-true, ltb-true, leb-false, ne-eqb, not-false}
-use Rattle.lists.specs.Lists.{firstIndex, all, total, countBelow}
+use Rattle.lists.specs.Lists.{firstIndex, all, countOf, total, countBelow}
 use Rattle.lists.proofs.Tests.{Case, pass, fail, case, and-l, and-r, cannot-pass, contradiction, or-false-l, or-false-r}
 use Rattle.lists.proofs.Everywhere.{all-elim}
 use Rattle.lists.proofs.Keyed.{found-low, found-at}
@@ -30,7 +30,7 @@ use Rattle.report.specs.Rows.{Row, loansOf, takenGrants, rowsFrom, rows}
 use Rattle.report.specs.Complete.{TakenAndFree}
 use Rattle.report.specs.Report.{takenIn}
 use Rattle.report.proofs.TakenGrants.{taken-is, in-taken, once-taken}
-use Rattle.lists.proofs.Counting.{one, sum-same, sum-add, sum-ones, count-sum, countIn, total-same, exchanged, count-none, count-one}
+use Rattle.lists.proofs.Counting.{one, sum-same, sum-add, sum-ones, count-sum, total-same, exchanged, count-none, count-one}
 use Rattle.report.proofs.Runs.{inRun, in-run, run-count}
 
 -- ---- the depth 0 lines are the taken grants
@@ -172,10 +172,10 @@ module _ (t : Tables) (o : InOrder t) (s : ℕ) where
           let a = rules .roots n (r .name) l (r .live) (taken-root (rules .entry n l) (taken-is t n i)) (r .store) (eqName-ne n (r .name) e) in
           absurd (⊎-elim (λ x. omega (arith, x, h .high, k .low)) (λ y. omega (arith, y, h .low, k .high)) a)
 
-  each-sheet : countIn has (takenGrants t) + one (isFreeSheet (t .entries) s) ≡ 1
+  each-sheet : countOf has (takenGrants t) + one (isFreeSheet (t .entries) s) ≡ 1
   each-sheet = go (case (isFreeSheet (t .entries) s))
     where
-      go : Case (isFreeSheet (t .entries) s) → countIn has (takenGrants t) + one (isFreeSheet (t .entries) s) ≡ 1
+      go : Case (isFreeSheet (t .entries) s) → countOf has (takenGrants t) + one (isFreeSheet (t .entries) s) ≡ 1
       go (pass e) = (λ i. count-none has (takenGrants t) (nobody e) i + one (e i))
       go (fail e) =
           let r = owner e in
@@ -193,6 +193,6 @@ all-sheets t o =
     sym (run-count (lookup t n .first) (lookup t n .count) 256 (o .rules .span n (head-grant (lookup t n .kind)
     (taken-head (lookup t n .kind) (taken-is t n i))) .fits))) in
     (λ k. (taken-total t ∙ counts ∙ exchanged 256 run L) k + count-sum 256 (isFreeSheet (t .entries)) k)
-    ∙ sum-add 256 (λ s. countIn (λ n. run n s) L) (λ s. one (isFreeSheet (t .entries) s))
-    ∙ sum-same 256 (λ s. countIn (λ n. run n s) L + one (isFreeSheet (t .entries) s)) (λ s. 1) (λ s b. each-sheet t o s)
+    ∙ sum-add 256 (λ s. countOf (λ n. run n s) L) (λ s. one (isFreeSheet (t .entries) s))
+    ∙ sum-same 256 (λ s. countOf (λ n. run n s) L + one (isFreeSheet (t .entries) s)) (λ s. 1) (λ s b. each-sheet t o s)
     ∙ sum-ones 256
