@@ -1,4 +1,5 @@
--- Laws of being in a list and of no element twice: appended, kept, tabulated, joined, mapped lists.
+-- Laws of being in a list and of no element twice: at a place, appended, kept, tabulated, joined, mapped lists; tests of every element and of
+-- some, by members.
 use Prim.Native.Nat.{ℕ, zero, suc, _≤_, _<_}
 use native.Mathlib.Omega.{arith}
 use mathlib.Core.Path.{_≡_, refl, sym, ap, subst, _∙_}
@@ -6,10 +7,13 @@ use mathlib.Core.Logic.{_⊎_, inl, inr, ⊎-elim}
 use mathlib.Core.Bool.{Bool, true, false, cond}
 use mathlib.Core.List.{List, [], _∷_, _++_, map, flatMap, map-append, append-assoc}
 use lib.Dec.{ltb}
+use lib.ListN.{length, getD}
 use borrow.Author.Tests.{ltb-true, ltb-false}
-use Rattle.lists.specs.Lists.{keep}
+use Rattle.lists.specs.Lists.{firstIndex, all, some, keep}
 use Rattle.lists.specs.Parts.{tabulate, joined}
-use Rattle.lists.proofs.Tests.{Case, pass, fail, case}
+use Rattle.lists.proofs.Tests.{Case, pass, fail, case, and-intro}
+use Rattle.lists.proofs.Everywhere.{all-elim, some-intro}
+use Rattle.lists.proofs.Search.{some-first, find-passes}
 use Rattle.lists.specs.Members.{In, first, later, Once, none, more}
 
 split : (i n : ℕ) → i ≤ n → (i < n) ⊎ (i ≡ n)
@@ -20,6 +24,29 @@ split i n b = go (case (ltb i n))
     go (fail e) = let c : n ≤ i = ltb-false i n e in inr (omega arith)
 
 module _ {A : Type 0} where
+  pub in-none : {a : A} → In a [] → ⊥
+  in-none i = elim i [ ]
+
+  pub in-cons : {a x : A} {xs : List A} → In a (x ∷ xs) → (a ≡ x) ⊎ In a xs
+  in-cons (first e) = inl e
+  in-cons (later i) = inr i
+
+  -- ---- at a place
+  pub record At (d a : A) (xs : List A) : Type 0 where
+    pub place : ℕ
+    pub low : place < length xs
+    pub is : getD xs place d ≡ a
+
+  pub at-of : (d a : A) (xs : List A) → In a xs → At d a xs
+  at-of d a (x ∷ xs) (first e) = record { place = 0; low = omega arith; is = sym e }
+  at-of d a (x ∷ xs) (later i) = let p = at-of d a xs i in record { place = suc (p .place); low = omega (arith, p .low); is = p .is }
+
+  pub in-place : (d : A) (xs : List A) (i : ℕ) → i < length xs → In (getD xs i d) xs
+  in-place d [] i b = absurd (omega arith)
+  in-place d (x ∷ xs) zero b = first refl
+  in-place d (x ∷ xs) (suc i) b = later (in-place d xs i (omega (arith, b)))
+
+  -- ---- appended
   pub in-left : (a : A) (xs ys : List A) → In a xs → In a (xs ++ ys)
   in-left a (x ∷ xs) ys (first e) = first e
   in-left a (x ∷ xs) ys (later i) = later (in-left a xs ys i)
@@ -73,6 +100,23 @@ module _ {A : Type 0} where
       go true p = more (λ i. out (kept test x xs i .member)) p
       go false p = p
 
+  -- ---- tests of some element and of every one
+  pub some-in : (test : A → Bool) (xs : List A) (a : A) → In a xs → test a ≡ true → some test xs ≡ true
+  some-in test xs a i t = let p = at-of a a xs i in some-intro a test xs (p .place) (p .low) (ap test (p .is) ∙ t)
+
+  -- the first that passes, where one does
+  pub found : (test : A → Bool) (xs : List A) (d : A) → some test xs ≡ true → Kept test (getD xs (firstIndex test xs) d) xs
+  found test xs d e =
+      let b = some-first test xs e in record { member = in-place d xs (firstIndex test xs) b; passes = find-passes test xs d b }
+
+  pub all-in : (test : A → Bool) (xs : List A) (a : A) → all test xs ≡ true → In a xs → test a ≡ true
+  all-in test xs a e i = let p = at-of a a xs i in ap test (sym (p .is)) ∙ all-elim a test xs e (p .place) (p .low)
+
+  pub all-members : (test : A → Bool) (xs : List A) → ((a : A) → In a xs → test a ≡ true) → all test xs ≡ true
+  unfolding all
+  all-members test [] h = refl
+  all-members test (x ∷ xs) h = and-intro (h x (first refl)) (all-members test xs (λ a i. h a (later i)))
+
   -- ---- tabulated
   pub in-tabulate : (n : ℕ) (f : ℕ → A) (i : ℕ) → i < n → In (f i) (tabulate n f)
   unfolding tabulate
@@ -115,10 +159,7 @@ module _ {A : Type 0} where
 
   pub from-joined : (n : ℕ) (part : ℕ → List A) (a : A) → In a (joined n part) → Joined n part a
   unfolding joined
-  from-joined zero part a i = absurd (empty i)
-    where
-      empty : In a [] → ⊥
-      empty i = elim i [ ]
+  from-joined zero part a i = absurd (in-none i)
   from-joined (suc n) part a i =
       ⊎-elim (λ j. (let r = from-joined n part a j in record { place = r .place; low = omega (arith, r .low); member = r .member }))
       (λ j. record { place = n; low = omega arith; member = j }) (in-either a (joined n part) (part n) i)
@@ -155,6 +196,14 @@ mapped f b (x ∷ xs) (later i) = let m = mapped f b xs i in record { from = m .
 pub in-map : {A B : Type 0} (f : A → B) (a : A) (xs : List A) → In a xs → In (f a) (map f xs)
 in-map f a (x ∷ xs) (first e) = first (ap f e)
 in-map f a (x ∷ xs) (later i) = later (in-map f a xs i)
+
+pub all-map : {A B : Type 0} (test : B → Bool) (f : A → B) (xs : List A) → ((a : A) → In a xs → test (f a) ≡ true) → all test (map f xs) ≡ true
+all-map test f xs h =
+    all-members test (map f xs) (λ b i. (let m = mapped f b xs i in ap test (m .is) ∙ h (m .from) (m .member)))
+
+pub map-back : {A B : Type 0} (f : A → B) (g : B → A) (xs : List A) → ((a : A) → In a xs → g (f a) ≡ a) → map g (map f xs) ≡ xs
+map-back f g [] h = refl
+map-back f g (x ∷ xs) h = λ i. h x (first refl) i ∷ map-back f g xs (λ a j. h a (later j)) i
 
 pub once-map : {A B : Type 0} (f : A → B) (xs : List A) → Once xs → ((a b : A) → In a xs → In b xs → f a ≡ f b → a ≡ b) → Once (map f xs)
 once-map f [] o inj = none
@@ -203,6 +252,11 @@ pub flat-flat : {A B C : Type 0} (f : B → List C) (g : A → List B) (xs : Lis
 unfolding flatMap
 flat-flat f g [] = refl
 flat-flat f g (x ∷ xs) = flat-append f (g x) (flatMap g xs) ∙ ap (λ (l : List _). flatMap f (g x) ++ l) (flat-flat f g xs)
+
+pub map-flat : {A B : Type 0} (f : A → B) (xs : List A) → map f xs ≡ flatMap (λ a. f a ∷ []) xs
+unfolding flatMap
+map-flat f [] = refl
+map-flat f (x ∷ xs) = ap (λ (l : List _). f x ∷ l) (map-flat f xs)
 
 -- ---- the same for every element
 module _ {A B : Type 0} where
