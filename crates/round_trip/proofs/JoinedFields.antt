@@ -50,9 +50,13 @@ cut-last x (b ∷ part) e =
     let n : eqb b x ≡ false = not-true (eqb b x) (and-l (not (eqb b x)) (without x part) e) in
     rw n (ap (inFront b) (cut-last x part (and-r (not (eqb b x)) (without x part) e)))
 
+pub first-line : (line rest : List ℕ) → without lineEnd line ≡ true → lines (line ++ lineEnd ∷ rest) ≡ line ∷ lines rest
+unfolding lines
+first-line line rest e = cut-part lineEnd [] line rest e
+
 pub one-line : (line : List ℕ) → without lineEnd line ≡ true → lines (line ++ lineEnd ∷ []) ≡ line ∷ []
 unfolding lines cut
-one-line line e = cut-part lineEnd [] line [] e
+one-line line e = first-line line [] e
 
 -- ---- fields
 pub fields-joined : (f : List ℕ) (fs : List (List ℕ)) → all (without space) (f ∷ fs) ≡ true → fields (joined (f ∷ fs)) ≡ f ∷ fs

@@ -8,3 +8,4 @@ pub mod SameTaking
 pub mod SamePassing
 pub mod SameStep
 pub mod KeptElsewhere
+pub mod SameInOrder
