@@ -1,18 +1,17 @@
 -- Counts and lengths: of the elements that pass, of joined parts, of sorted lists.
-use Prim.Native.Nat.{ℕ, suc, _+_, _*_, _≤_, _<_}
+use Prim.Native.Nat.{ℕ, suc, _+_, _*_, _≤_}
 use native.Mathlib.Omega.{arith}
 use native.Mathlib.Nat.{mul-suc}
-use mathlib.Core.Path.{_≡_, refl, ap}
+use mathlib.Core.Path.{_≡_, refl, sym, ap, subst}
 use mathlib.Core.Bool.{Bool, true, cond}
 use mathlib.Core.List.{List, [], _∷_, _++_, flatMap}
 use lib.Dec.{leb, eqb}
 use lib.ListN.{length, length-append}
 use borrow.Author.Tests.{eqb-true, eqb-false}
 use Rattle.lists.specs.Lists.{keep, countOf, putInto, sortedBy}
-use Rattle.lists.specs.Members.{In, first, later}
+use Rattle.lists.specs.Members.{In, first, later, Once, more}
 use Rattle.lists.proofs.Tests.{Case, pass, fail, case, cannot-pass}
 use Rattle.lists.proofs.Counting.{count-none}
-use Rattle.lists.proofs.Rising.{Rising, rises}
 
 -- ---- counts
 module _ {A : Type 0} (test : A → Bool) where
@@ -35,33 +34,33 @@ module _ {A : Type 0} (test : A → Bool) where
       go h (pass t) = rw t (omega (arith, h))
       go h (fail t) = rw t (omega (arith, h))
 
-  none-else : (f : ℕ → List A) (is : List ℕ) (c : ℕ) → ((i : ℕ) → In i is → c < i)
+  none-else : (f : ℕ → List A) (is : List ℕ) (c : ℕ) → (In c is → ⊥)
       → ((i : ℕ) (x : A) → In i is → In x (f i) → test x ≡ true → i ≡ c) → countOf test (flatMap f is) ≡ 0
   unfolding flatMap countOf
-  none-else f [] c h tell = refl
-  none-else f (i ∷ is) c h tell =
-      let z : countOf test (f i) ≡ 0
-      = count-none test (f i) (λ x m. cannot-pass (test x) (λ t. (let q : i ≡ c = tell i x (first refl) m t in omega (arith, h i (first refl), q)))) in
-      let y : countOf test (flatMap f is) ≡ 0 = none-else f is c (λ j m. h j (later m)) (λ j x m. tell j x (later m)) in
+  none-else f [] c out tell = refl
+  none-else f (i ∷ is) c out tell =
+      let z : countOf test (f i) ≡ 0 = count-none test (f i) (λ x m. cannot-pass (test x) (λ t. out (first (sym (tell i x (first refl) m t))))) in
+      let y : countOf test (flatMap f is) ≡ 0 = none-else f is c (λ m. out (later m)) (λ j x m. tell j x (later m)) in
       omega (arith, count-joined (f i) (flatMap f is), z, y)
 
   -- where only part c has such elements
-  pub count-part : (f : ℕ → List A) (is : List ℕ) → Rising (λ (i : ℕ). i) is → (c n : ℕ) → ((i : ℕ) → In i is → countOf test (f i) ≤ n)
+  pub count-part : (f : ℕ → List A) (is : List ℕ) → Once is → (c n : ℕ) → ((i : ℕ) → In i is → countOf test (f i) ≤ n)
       → ((i : ℕ) (x : A) → In i is → In x (f i) → test x ≡ true → i ≡ c) → countOf test (flatMap f is) ≤ n
   unfolding flatMap countOf
-  count-part f [] r c n b tell = omega arith
-  count-part f (i ∷ is) (rises h r) c n b tell =
-      go (count-part f is r c n (λ j m. b j (later m)) (λ j x m. tell j x (later m))) (case (eqb i c))
+  count-part f [] o c n b tell = omega arith
+  count-part f (i ∷ is) (more out o) c n b tell =
+      go (count-part f is o c n (λ j m. b j (later m)) (λ j x m. tell j x (later m))) (case (eqb i c))
     where
       joined : countOf test (f i ++ flatMap f is) ≡ countOf test (f i) + countOf test (flatMap f is)
       joined = count-joined (f i) (flatMap f is)
 
       go : countOf test (flatMap f is) ≤ n → Case (eqb i c) → countOf test (f i ++ flatMap f is) ≤ n
-      go o (fail e) =
+      go h (fail e) =
           let z : countOf test (f i) ≡ 0 = count-none test (f i) (λ x m. cannot-pass (test x) (λ t. eqb-false i c e (tell i x (first refl) m t))) in
-          omega (arith, joined, z, o)
-      go o (pass e) =
-          let z : countOf test (flatMap f is) ≡ 0 = none-else f is c (λ j m. omega (arith, h j m, eqb-true i c e)) (λ j x m. tell j x (later m)) in
+          omega (arith, joined, z, h)
+      go h (pass e) =
+          let z : countOf test (flatMap f is) ≡ 0
+          = none-else f is c (λ m. out (subst (λ (j : ℕ). In j is) (sym (eqb-true i c e)) m)) (λ j x m. tell j x (later m)) in
           omega (arith, joined, z, b i (first refl))
 
   -- one element more, or moved from the rest to the front

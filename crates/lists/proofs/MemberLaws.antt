@@ -211,6 +211,15 @@ once-map f (x ∷ xs) (more out o) inj =
     more (λ i. (let m = mapped f (f x) xs i in out (subst (λ (a : _). In a xs) (sym (inj x (m .from) (first refl) (later (m .member)) (m .is))) (m .member))))
     (once-map f xs o (λ a b i j. inj a b (later i) (later j)))
 
+pub once-map-append : {A B : Type 0} (f : A → B) (xs ys : List A) → Once (map f xs) → Once (map f ys)
+    → ((a b : A) → In a xs → In b ys → f a ≡ f b → ⊥) → Once (map f (xs ++ ys))
+once-map-append f xs ys o p apart =
+    subst (λ (l : List _). Once l) (sym (map-append f xs ys))
+    (once-append (map f xs) (map f ys) o p (λ c i j.
+    let m = mapped f c xs i in
+    let n = mapped f c ys j in
+    apart (m .from) (n .from) (m .member) (n .member) (sym (m .is) ∙ n .is)))
+
 -- ---- parts one behind the other
 pub record Flat {A B : Type 0} (f : A → List B) (b : B) (xs : List A) : Type 0 where
   pub from : A
@@ -252,11 +261,6 @@ pub flat-flat : {A B C : Type 0} (f : B → List C) (g : A → List B) (xs : Lis
 unfolding flatMap
 flat-flat f g [] = refl
 flat-flat f g (x ∷ xs) = flat-append f (g x) (flatMap g xs) ∙ ap (λ (l : List _). flatMap f (g x) ++ l) (flat-flat f g xs)
-
-pub map-flat : {A B : Type 0} (f : A → B) (xs : List A) → map f xs ≡ flatMap (λ a. f a ∷ []) xs
-unfolding flatMap
-map-flat f [] = refl
-map-flat f (x ∷ xs) = ap (λ (l : List _). f x ∷ l) (map-flat f xs)
 
 -- ---- the same for every element
 module _ {A B : Type 0} where

@@ -1,6 +1,6 @@
 -- Lists by strictly rising keys. Two of them with the same members are equal, so that whatever writes the elements in their order has written
 -- the sorted list; and sorting keeps members and counts. No permutation is ever spoken of.
-use Prim.Native.Nat.{ℕ, zero, suc, _<_}
+use Prim.Native.Nat.{ℕ, suc, _<_}
 use native.Mathlib.Omega.{arith}
 use mathlib.Core.Path.{_≡_, refl, sym, ap, _∙_, subst}
 use mathlib.Core.Bool.{Bool, true, false, not, _&&_, cond}
@@ -9,10 +9,9 @@ use lib.Dec.{leb}
 use borrow.Author.Tests.{leb-true, leb-false, not-true}
 use Rattle.lists.specs.Tests.{implies}
 use Rattle.lists.specs.Lists.{some, noTwo, keep, countOf, putInto, sortedBy}
-use Rattle.lists.specs.Parts.{tabulate}
 use Rattle.lists.specs.Members.{In, first, later, Once, none, more}
 use Rattle.lists.proofs.Tests.{Case, pass, fail, case, contradiction, and-l, and-r, and-intro, implies-elim}
-use Rattle.lists.proofs.MemberLaws.{in-none, some-in, kept, mapped, in-map, tabulated}
+use Rattle.lists.proofs.MemberLaws.{in-none, some-in, kept, mapped, in-map}
 
 module _ {A : Type 0} (key : A → ℕ) where
   -- each key is below all later ones
@@ -202,12 +201,3 @@ module _ {A B : Type 0} (counts : A → Bool) (alike : A → A → Bool) (row : 
           → Once (map order (map row (cond (counts x) (x ∷ keep counts xs) (keep counts xs))))
       go o (pass c) = rw c (more (apart c) o)
       go o (fail c) = rw c o
-
--- ---- the numbers below n
-pub tabulate-rising : (n : ℕ) (f : ℕ → ℕ) → ((i j : ℕ) → i < j → f i < f j) → Rising (λ (i : ℕ). i) (tabulate n f)
-unfolding tabulate
-tabulate-rising zero f h = empty
-tabulate-rising (suc n) f h =
-    rises
-    (λ y m. (let b = tabulated n (λ i. f (suc i)) y m in subst (λ (k : ℕ). f 0 < k) (sym (b .is)) (h 0 (suc (b .place)) (omega arith))))
-    (tabulate-rising n (λ i. f (suc i)) (λ i j l. h (suc i) (suc j) (omega (arith, l))))
