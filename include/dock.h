@@ -50,9 +50,10 @@ extern "C" {
 #define DOCK_TRACE_ROOM 983074 /* bytes that every trace fits into */
 #define DOCK_REPORT_SCRATCH 256 /* bytes of the scratch of a report: one for each ticket place */
 #define DOCK_REPORT_ROOM 6196   /* bytes that every report fits into */
+#define DOCK_SAVED_ROOM 18309   /* bytes that every saved text fits into */
 
 /* The version that this header belongs to: major * 10000 + minor * 100 + patch. */
-#define DOCK_VERSION 20101
+#define DOCK_VERSION 30000
 
 /*
  * Bytes of stack that a call may take, its own frame included. dock_report has its own number, because
@@ -123,7 +124,8 @@ enum dock_result {
     DOCK_NOT_IN_ORDER = 14, /* the bytes are no tables, or the tables are not in order */
     DOCK_OTHER_FORM = 15,   /* only in traces: a line or text of another form */
     DOCK_SCRATCH = 16,      /* the scratch of a report has another length */
-    DOCK_TOO_SHORT = 17     /* the output is too short */
+    DOCK_TOO_SHORT = 17,    /* the output is too short */
+    DOCK_BAD_TEXT = 18      /* a text of another form or order */
 };
 
 /* Kinds of ticket, as the image has them. */
@@ -153,8 +155,8 @@ enum dock_kind {
  *   6208 + 20 * e                        20     an entry of the dock, place e from 0 to 255
  *       + 0                                       live: 0 or 1
  *       + 2, + 4, + 6                             name (pad, program, number)
- *       + 8, + 10, + 12                           parent (pad, program, number); number 0: the store,
- *                                                   whatever pad and program say
+ *       + 8, + 10, + 12                           parent (pad, program, number); 0, 0, 0: the store,
+ *                                                   and no other parent has the number 0
  *       + 14, + 16, + 18                          first sheet, count, rights
  *
  * Fields that a kind does not use say nothing. A free place, or an entry that is not live, may hold
@@ -248,7 +250,8 @@ uint16_t dock_check(const uint8_t *tables, size_t tables_length,
  * A host that kept tables of version 1 asks this once before it goes on with them: there a recall on a
  * pad left the loans that were made from it to other pads, and such tables are not in order any more.
  * On DOCK_NOT_IN_ORDER the ways out are to give all takes back with the old library and then go on, or
- * to empty the dock. Tables that were never left so are in order as before.
+ * to empty the dock. Tables that were never left so are in order as before. Those that version 2 left
+ * are, but where a host itself wrote a parent with number 0 and a pad or program beside it.
  */
 uint16_t dock_in_order(const uint8_t *tables, size_t tables_length);
 
@@ -292,6 +295,45 @@ uint16_t dock_trace(uint8_t *tables, size_t tables_length, uint8_t *store, size_
 uint16_t dock_report(const uint8_t *tables, size_t tables_length,
                      uint8_t *scratch, size_t scratch_length,
                      uint8_t *output, size_t output_length, size_t *length);
+
+/*
+ * The tables as text: what one dock saves another loads, and knows every ticket. The first line is
+ *     kind pad program number own opad oprogram onumber first count rights
+ * and each line behind it one of these, with 0 for what its kind does not use:
+ *     0     a program: number is the last that it was given. All DOCK_PADS * DOCK_PROGRAMS stand there once
+ *     1, 2  a taken, a received grant: its name (pad, program, number), first, count, rights
+ *     3     a child: as 1, and in opad, oprogram, onumber its parent's name
+ *     4     a recall: its name, in own the number of its grant, in opad, oprogram, onumber its target's name
+ *     5     an entry: its name, its parent's (0 0 0: the store), first, count, rights
+ * The lines stand by kind, pad, program and number, strictly rising. Numbers are decimal, at most 65535,
+ * without leading zeros, one space between; byte 10 ends every line. A child's dock name is not written: it
+ * is the name of the grant that heads its chain. Two tables that say the same have the same text.
+ *
+ * The store is not in the text. A host that swaps docks carries its DOCK_STORE bytes over by itself, text
+ * and store from one moment between two calls: over another store the tickets open other ink. Whoever can
+ * write the text can make tickets, as with the tables.
+ */
+
+/*
+ * Saves the tables. Lengths: DOCK_TABLES; the output may have any. The text goes to the front of the
+ * output and its length to *length. DOCK_LENGTH, DOCK_NOT_IN_ORDER, or DOCK_TOO_SHORT where the output is
+ * too short for the whole text: *length is 0, and the output stays as it was. An output below
+ * DOCK_SAVED_ROOM bytes costs a second pass, for the length. Otherwise DOCK_ACCEPTED. The tables never
+ * change.
+ */
+uint16_t dock_save(const uint8_t *tables, size_t tables_length,
+                   uint8_t *output, size_t output_length, size_t *length);
+
+/*
+ * Loads tables from a text; what they held before means nothing. DOCK_LENGTH where tables_length is not
+ * DOCK_TABLES: nothing changes. DOCK_BAD_TEXT where the text has another form or order: other names, a
+ * line of another form, an unused number that is not 0, a kind above 5, a pad or opad above 3, a program
+ * or oprogram above 7, a line that does not stand above the one before it, a program without its one line
+ * of kind 0, a ninth ticket of a program, a 257th entry, no byte 10 at the end. DOCK_NOT_IN_ORDER where it
+ * is in form and its tables are not in order. After these two the tables are those of an emptied dock.
+ * Otherwise DOCK_ACCEPTED: the tables are those of the text, and saving them gives it back byte for byte.
+ */
+uint16_t dock_load(uint8_t *tables, size_t tables_length, const uint8_t *text, size_t text_length);
 
 /* The rest is convenience over the functions above, and no part of the library. */
 
@@ -371,6 +413,7 @@ static inline const char *dock_result_name(uint16_t result)
     case DOCK_OTHER_FORM: return "a line or text of another form";
     case DOCK_SCRATCH: return "the scratch has another length";
     case DOCK_TOO_SHORT: return "the output is too short";
+    case DOCK_BAD_TEXT: return "the text has another form or order";
     default: return "no such result";
     }
 }
