@@ -9,7 +9,7 @@ mod refusal;
 pub use refusal::Refusal;
 
 /// The version that this binding was written for: major * 10000 + minor * 100 + patch.
-pub const VERSION: u32 = 20_101;
+pub const VERSION: u32 = 30_000;
 
 /// Bytes of the tables' image.
 pub const TABLES: usize = 11_328;
@@ -26,6 +26,8 @@ pub const TRACE_INPUT: usize = 65_536;
 /// Bytes that every report fits into, and bytes of its scratch: one for each ticket place.
 pub const REPORT_ROOM: usize = 6_196;
 pub const REPORT_SCRATCH: usize = 256;
+/// Bytes that every saved text fits into.
+pub const SAVED_ROOM: usize = 18_309;
 /// Bytes of stack that a call may take, a report and a trace: measured, not proved.
 pub const STACK: usize = 32_768;
 pub const REPORT_STACK: usize = 49_152;
@@ -229,6 +231,22 @@ impl Dock {
         Refusal::of_result(result).map(|()| length)
     }
 
+    /// Saves the tables as text, without the store. The length of what was written comes back. Refused where the
+    /// tables are not in order, or where the output is too short for the whole text: then the output stays as it
+    /// was.
+    pub fn save(&self, output: &mut [u8]) -> Result<usize, Refusal> {
+        let mut length = 0;
+        let result = raw::save(&self.tables[..], output, &mut length);
+        Refusal::of_result(result).map(|()| length)
+    }
+
+    /// Loads the tables from a saved text; the store stays as it is, and whoever swaps docks carries it over.
+    /// Refused where the text has another form or order, or where its tables are not in order: then the tables
+    /// are emptied.
+    pub fn load(&mut self, text: &[u8]) -> Result<(), Refusal> {
+        Refusal::of_result(raw::load(&mut self.tables[..], text))
+    }
+
     /// Whether the tables are in order: else `Refusal::NotInOrder`.
     pub fn in_order(&self) -> Result<(), Refusal> {
         Refusal::of_result(raw::in_order(&self.tables[..]))
@@ -350,6 +368,16 @@ pub mod raw {
             )
         }
     }
+
+    pub fn save(tables: &[u8], output: &mut [u8], length: &mut usize) -> u16 {
+        // SAFETY: each pointer is valid for its length, and exclusive borrows overlap nothing.
+        unsafe { ffi::dock_save(tables.as_ptr(), tables.len(), output.as_mut_ptr(), output.len(), length) }
+    }
+
+    pub fn load(tables: &mut [u8], text: &[u8]) -> u16 {
+        // SAFETY: each pointer is valid for its length, and the exclusive borrow overlaps nothing.
+        unsafe { ffi::dock_load(tables.as_mut_ptr(), tables.len(), text.as_ptr(), text.len()) }
+    }
 }
 
 mod ffi {
@@ -425,6 +453,14 @@ mod ffi {
             output_length: usize,
             length: *mut usize,
         ) -> u16;
+        pub fn dock_save(
+            tables: *const u8,
+            tables_length: usize,
+            output: *mut u8,
+            output_length: usize,
+            length: *mut usize,
+        ) -> u16;
+        pub fn dock_load(tables: *mut u8, tables_length: usize, text: *const u8, text_length: usize) -> u16;
         pub fn dock_version() -> u32;
     }
 }

@@ -69,6 +69,8 @@ refusals! {
     Scratch = 16, "the scratch has another length";
     /// The output is too short.
     TooShort = 17, "the output is too short";
+    /// A text of another form or order.
+    BadText = 18, "the text has another form or order";
 }
 
 impl Refusal {

@@ -55,7 +55,7 @@ fn every_number_is_the_headers() {
         dock::ANSWER => "ANSWER", dock::STACK => "STACK", dock::TRACE_STACK => "TRACE_STACK",
         dock::REPORT_STACK => "REPORT_STACK",
         dock::VERSION => "VERSION", dock::TRACE_ROOM => "TRACE_ROOM", dock::TRACE_INPUT => "TRACE_INPUT",
-        dock::REPORT_ROOM => "REPORT_ROOM", dock::REPORT_SCRATCH => "REPORT_SCRATCH",
+        dock::REPORT_ROOM => "REPORT_ROOM", dock::REPORT_SCRATCH => "REPORT_SCRATCH", dock::SAVED_ROOM => "SAVED_ROOM",
         layout::PROGRAM_SIZE => "PROGRAM_SIZE", layout::TICKET_SIZE => "TICKET_SIZE", layout::LAST_AT => "LAST_AT",
         layout::ENTRIES_AT => "ENTRIES_AT", layout::ENTRY_SIZE => "ENTRY_SIZE",
         layout::TICKET_KIND_AT => "TICKET_KIND_AT", layout::TICKET_NUMBER_AT => "TICKET_NUMBER_AT",
