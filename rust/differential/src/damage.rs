@@ -35,17 +35,19 @@ pub fn rearrange(image: &[u8], rng: &mut Rng) -> Vec<u8> {
     to_bytes(&host.words)
 }
 
-/// A recall names a child of another pad; nothing else is wrong where the image was in order.
-pub fn far_child(image: &[u8], rng: &mut Rng) -> Option<Vec<u8>> {
-    let mut host = Host { words: to_words(image), rng };
-    host.recall_from_abroad()?;
-    Some(to_bytes(&host.words))
-}
+/// An image with one clause broken, where there is something to break it by.
+type Broken = fn(&[u8], &mut Rng) -> Option<Vec<u8>>;
 
-/// An entry below another has no recall; nothing else is wrong where the image was in order.
-pub fn unrecalled(image: &[u8], rng: &mut Rng) -> Option<Vec<u8>> {
+/// Each breaks one clause of T5 or T6; nothing else is wrong where the image was in order.
+pub const ONE_CLAUSE: [(&str, Broken); 3] = [
+    ("  a far child recalled", |image, rng| one_change(image, rng, |host| host.recall_from_abroad())),
+    ("  an entry not recalled", |image, rng| one_change(image, rng, |host| host.free_recall(true))),
+    ("  a parent beside 0", |image, rng| one_change(image, rng, |host| host.name_beside_0())),
+];
+
+fn one_change(image: &[u8], rng: &mut Rng, change: fn(&mut Host) -> Option<()>) -> Option<Vec<u8>> {
     let mut host = Host { words: to_words(image), rng };
-    host.free_recall(true)?;
+    change(&mut host)?;
     Some(to_bytes(&host.words))
 }
 
@@ -83,7 +85,7 @@ impl Host<'_> {
         let (seat, at) = self.pick(&ANY)?;
         let (_, other) = self.pick(&ANY)?;
         let entry = self.rng.pick(&self.entries(1))?;
-        match self.rng.below(32) {
+        match self.rng.below(33) {
             0 | 1 => {
                 let field = self.rng.below(TICKET);
                 self.change(at + field, other + field);
@@ -152,6 +154,7 @@ impl Host<'_> {
             27 => self.recall_from_abroad()?,
             28 => self.free_recall(true)?,
             29 => self.recall_of_nothing(0)?,
+            30 => self.name_beside_0()?,
             _ => {
                 // Another number, for this ticket or for what a recall stands under.
                 let mate = self.rng.pick(&self.of_program(seat))?;
@@ -188,11 +191,9 @@ impl Host<'_> {
             });
         }
         for at in (0..ENTRY_PLACES).map(entry_at) {
-            unused.extend(match (self.words[at + LIVE], self.words[at + PARENT + 2]) {
-                (0, _) => at + 1..at + ENTRY,
-                (_, 0) => at + PARENT..at + PARENT + 2,
-                _ => 0..0,
-            });
+            if self.words[at + LIVE] == 0 {
+                unused.extend(at + 1..at + ENTRY);
+            }
         }
         for word in unused {
             self.words[word] = self.rng.edge();
@@ -419,6 +420,15 @@ impl Host<'_> {
         set_name(&mut self.words, entry + NAME, own);
         self.words.copy_within(child + DOCK..child + DOCK + 3, entry + PARENT);
         self.words.copy_within(child + FIRST..child + FIRST + 3, entry + ENTRY_FIRST);
+        Some(())
+    }
+
+    /// The number 0 of a parent is the store's, with a pad or a program beside it nobody's.
+    fn name_beside_0(&mut self) -> Option<()> {
+        let under_store: Vec<usize> =
+            self.entries(1).into_iter().filter(|at| self.words[at + PARENT + 2] == 0).collect();
+        let parent = self.rng.pick(&under_store)? + PARENT;
+        self.words[parent + self.rng.below(2)] = [1, 2, 3, 4, 7, 8, 65_535][self.rng.below(7)];
         Some(())
     }
 

@@ -36,13 +36,15 @@ pub const RECEIVED: u16 = 2;
 pub const CHILD: u16 = 3;
 pub const RECALL: u16 = 4;
 
-/// An entry's words. A parent with the number 0 is the store.
+/// An entry's words. A parent of zeros is the store.
 pub const LIVE: usize = layout::ENTRY_LIVE_AT / 2;
 pub const NAME: usize = layout::ENTRY_NAME_AT / 2;
 pub const PARENT: usize = layout::ENTRY_PARENT_AT / 2;
 pub const ENTRY_FIRST: usize = layout::ENTRY_FIRST_AT / 2;
 pub const ENTRY_COUNT: usize = layout::ENTRY_COUNT_AT / 2;
 pub const ENTRY_RIGHTS: usize = layout::ENTRY_RIGHTS_AT / 2;
+
+const THE_STORE: Name = Name { pad: 0, program: 0, number: 0 };
 
 /// The first word of a ticket's place.
 pub fn ticket_at(seat: usize, place: usize) -> usize {
@@ -108,7 +110,7 @@ pub fn to_model(bytes: &[u8]) -> Option<State> {
             0 => {}
             1 => {
                 let above = name(e, PARENT);
-                let parent = (above.number != 0).then_some(above);
+                let parent = (above != THE_STORE).then_some(above);
                 let sheets = Sheets { first: e[ENTRY_FIRST], count: e[ENTRY_COUNT] };
                 state.put_entry(name(e, NAME), Entry { parent, sheets, rights: e[ENTRY_RIGHTS] });
             }

@@ -1,4 +1,5 @@
-//! The two clauses that document 02's first request adds to T6, each broken by itself.
+//! The two clauses that document 02's first request adds to T6, and its fourth's word that zeros mean the store, each
+//! broken by itself.
 
 use model::{Entry, Grant, Name, Sheets, Source, State, Ticket};
 
@@ -38,4 +39,22 @@ fn no_recall_names_a_child_of_another_pad() {
 fn an_entry_below_another_has_its_recall() {
     let child = Name::new(VIEWER, 1);
     assert!(!tables(&[(CAPTURE, child)]).in_order());
+}
+
+#[test]
+fn only_zeros_are_the_store() {
+    let sheets = Sheets { first: 0, count: 1 };
+    let taken = Name::new(CAPTURE, 1);
+    let under = |parent| {
+        let mut state = State::empty();
+        state.set_last(CAPTURE, 1);
+        let grant = Grant { source: Source::Taken, sheets, rights: 7, dock: taken };
+        state.put_ticket(CAPTURE, 1, Ticket::Grant(grant));
+        state.put_entry(taken, Entry { parent, sheets, rights: 7 });
+        state
+    };
+    assert!(under(None).in_order());
+    for seat in [VIEWER, NURSE, 31] {
+        assert!(!under(Some(Name::new(seat, 0))).in_order());
+    }
 }
