@@ -1,4 +1,4 @@
-//! Document 01 in plain Rust, with document 02's first two requests, as docs/DECISIONS.md reads them: a second
+//! Document 01 in plain Rust, with document 02's first four requests, as docs/DECISIONS.md reads them: a second
 //! implementation that the proved library is compared with and timed against. It shares no code and no layout
 //! with the library.
 //!
@@ -9,6 +9,8 @@
 mod eight;
 mod order;
 pub mod report;
+pub mod saved;
+mod text;
 pub mod trace;
 
 use eight::{Eight, SheetSet};
@@ -50,6 +52,7 @@ pub enum Refusal {
     NotInOrder = 14,
     Scratch = 16,
     TooShort = 17,
+    BadText = 18,
 }
 
 /// A ticket's name anywhere: pad, program and number. Any values can be held.

@@ -1,6 +1,7 @@
 //! The ward report, document 02's second request: who can read what.
 
 use crate::eight::SheetSet;
+use crate::text::line;
 use crate::{Grant, Name, Refusal, Sheets, Source, State, Ticket, SHEETS};
 
 /// Bytes of the scratch, one for each ticket place. The model marks nothing in it.
@@ -105,15 +106,4 @@ fn taken((name, ticket): (Name, &Ticket)) -> Option<(Name, Grant)> {
         Ticket::Grant(grant) if grant.source == Source::Taken => Some((name, *grant)),
         _ => None,
     }
-}
-
-/// Numbers with a space between, and byte 10.
-fn line(text: &mut String, numbers: &[u16]) {
-    for &number in numbers {
-        let digits = [10_000, 1000, 100, 10, 1].into_iter().filter(|&place| number >= place || place == 1);
-        text.extend(digits.map(|place| (b'0' + (number / place % 10) as u8) as char));
-        text.push(' ');
-    }
-    text.pop();
-    text.push('\n');
 }

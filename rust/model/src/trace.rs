@@ -1,26 +1,14 @@
 //! The trace program: a text of requests in, a text of answers out.
 
-use crate::{Request, State, NUMBERS, SHEET};
+use crate::{text::numbers, Request, State, NUMBERS, SHEET};
 
 pub const NAMES_IN: &str = "pad program op ticket topad toprogram first count rights fill";
 const NAMES_OUT: &str = "line result ticket recipient byte";
 
-/// A value as document 01 writes it: decimal, no leading zeros, at most 65,535.
-fn value(text: &[u8]) -> Option<u16> {
-    let digits = !text.is_empty() && text.iter().all(u8::is_ascii_digit);
-    let leading_zero = text.len() > 1 && text[0] == b'0';
-    if !digits || leading_zero {
-        return None;
-    }
-    std::str::from_utf8(text).ok()?.parse().ok()
-}
-
 /// A line's request and fill, or nothing where the line has another form.
 fn request(line: &[u8]) -> Option<(Request, u8)> {
-    let values: Vec<u16> = line.split(|&byte| byte == b' ').map(value).collect::<Option<_>>()?;
-    let values: [u16; NUMBERS + 1] = values.try_into().ok()?;
-    let numbers: [u16; NUMBERS] = values[..NUMBERS].try_into().ok()?;
-    let (request, fill) = (Request::from(numbers), u8::try_from(values[NUMBERS]).ok()?);
+    let [request @ .., fill]: [u16; NUMBERS + 1] = numbers(line)?;
+    let (request, fill) = (Request::from(request), u8::try_from(fill).ok()?);
     (fill == 0 || request.op == 6).then_some((request, fill))
 }
 
