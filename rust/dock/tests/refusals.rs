@@ -1,7 +1,8 @@
 //! Each refusal that a call can give, provoked through the library: its name stands for the library's number.
 
 use dock::{
-    layout, raw, rights, Answer, Dock, Refusal, Request, ANSWER, REPORT_ROOM, REPORT_SCRATCH, REQUEST, SHEET,
+    layout, raw, rights, Answer, Dock, Refusal, Request, ANSWER, REPORT_ROOM, REPORT_SCRATCH, REQUEST,
+    SAVED_ROOM, SHEET,
 };
 
 /// A dock in which program 0 of pad 0 has four sheets under ticket 1.
@@ -152,4 +153,24 @@ fn of_reports() {
     assert_eq!((Refusal::from_number(result), length), (Some(Refusal::Length), 0));
     dock.tables[layout::TICKET_KIND_AT] = 5;
     assert_eq!(dock.report(&mut scratch, &mut output), Err(Refusal::NotInOrder));
+}
+
+#[test]
+fn of_saved_tables() {
+    let mut dock = one_grant();
+    let mut output = [0; SAVED_ROOM];
+    assert_eq!(dock.save(&mut output[..1]), Err(Refusal::TooShort));
+    let length = dock.save(&mut output).expect("tables in order");
+    let mut number = 1;
+    let result = raw::save(&dock.tables[1..], &mut output, &mut number);
+    assert_eq!((Refusal::from_number(result), number), (Some(Refusal::Length), 0));
+    let short = raw::load(&mut dock.tables[1..], &output[..length]);
+    assert_eq!(Refusal::from_number(short), Some(Refusal::Length));
+    assert_eq!(dock.clone().load(&output[..length - 1]), Err(Refusal::BadText));
+    // Without its last line, which is the entry of the taken grant.
+    let entry = output[..length - 1].iter().rposition(|&byte| byte == b'\n').expect("lines");
+    assert_eq!(dock.clone().load(&output[..=entry]), Err(Refusal::NotInOrder));
+    assert_eq!(dock.load(&output[..length]), Ok(()));
+    dock.tables[layout::TICKET_KIND_AT] = 5;
+    assert_eq!(dock.save(&mut output), Err(Refusal::NotInOrder));
 }
