@@ -1,17 +1,21 @@
 //! The commands, each over one routine of the library.
 
 use crate::{
-    arguments::{number, traced, Arguments},
+    arguments::{self, number, saved, traced, Arguments},
     failure::Failure,
     files,
     report::Report,
     svg, tree,
 };
-use dock::{REPORT_ROOM, REPORT_SCRATCH, TRACE_INPUT};
+use dock::{Dock, REPORT_ROOM, REPORT_SCRATCH, TRACE_INPUT};
 use std::{ffi::OsString, path::Path};
 
-/// `dock trace [FROM]`: requests on standard input, answers on standard output.
-pub fn trace(words: Vec<OsString>) -> Result<(), Failure> {
+/// `dock trace [FROM] [--save FILE]`: requests on standard input, answers on standard output.
+pub fn trace(mut words: Vec<OsString>) -> Result<(), Failure> {
+    let save = arguments::file(&mut words, "--save")?;
+    if save.as_ref().is_some_and(|path| path.as_os_str() == "-") {
+        return Err(Failure::usage("--save wants a file: standard output has the answers"));
+    }
     let arguments = Arguments::of(words)?;
     if let Some(word) = arguments.rest.first() {
         return Err(Failure::usage(format!("trace reads standard input and takes no {}", word.display())));
@@ -21,7 +25,11 @@ pub fn trace(words: Vec<OsString>) -> Result<(), Failure> {
     }
     let mut dock = arguments.dock()?;
     let requests = files::read(Path::new("-"), TRACE_INPUT)?;
-    files::write(&traced(&mut dock, &requests)?)
+    let answers = traced(&mut dock, &requests)?;
+    if let Some(path) = save {
+        files::write_to(&path, &saved(&dock)?)?;
+    }
+    files::write(&answers)
 }
 
 /// `dock check [FROM] PAD PROGRAM NUMBER SHEET RIGHT`: the dock's own check.
@@ -40,6 +48,22 @@ pub fn report(words: Vec<OsString>) -> Result<(), Failure> {
     files::write(&reported("report", words)?)
 }
 
+/// `dock save [FROM]`: the tables as text.
+pub fn save(words: Vec<OsString>) -> Result<(), Failure> {
+    files::write(&saved(&from("save", words)?)?)
+}
+
+/// `dock load [FILE]`: whether a text of tables loads.
+pub fn load(words: Vec<OsString>) -> Result<(), Failure> {
+    match words.as_slice() {
+        [] => arguments::load(&mut Dock::new(), Path::new("-")),
+        [file] if !file.as_encoded_bytes().starts_with(b"--") => {
+            arguments::load(&mut Dock::new(), Path::new(file))
+        }
+        _ => Err(Failure::usage("load wants no more than a FILE")),
+    }
+}
+
 /// `dock tree [FROM] [--svg]`: the ward report, drawn.
 pub fn tree(mut words: Vec<OsString>) -> Result<(), Failure> {
     let given = words.len();
@@ -55,12 +79,17 @@ pub fn tree(mut words: Vec<OsString>) -> Result<(), Failure> {
 
 /// The library's report of FROM.
 fn reported(command: &str, words: Vec<OsString>) -> Result<Vec<u8>, Failure> {
-    let arguments = Arguments::of(words)?;
-    if let Some(word) = arguments.rest.first() {
-        return Err(Failure::usage(format!("{command} takes no {}", word.display())));
-    }
     let mut output = vec![0; REPORT_ROOM];
-    let length = arguments.dock()?.report(&mut [0; REPORT_SCRATCH], &mut output)?;
+    let length = from(command, words)?.report(&mut [0; REPORT_SCRATCH], &mut output)?;
     output.truncate(length);
     Ok(output)
+}
+
+/// FROM, for a command that takes nothing else.
+fn from(command: &str, words: Vec<OsString>) -> Result<Dock, Failure> {
+    let arguments = Arguments::of(words)?;
+    match arguments.rest.first() {
+        Some(word) => Err(Failure::usage(format!("{command} takes no {}", word.display()))),
+        None => arguments.dock(),
+    }
 }

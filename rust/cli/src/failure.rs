@@ -20,7 +20,7 @@ impl Failure {
         Failure::Usage(why.into())
     }
 
-    pub fn reading(path: &Path, why: io::Error) -> Self {
+    pub fn file(path: &Path, why: io::Error) -> Self {
         Failure::File(format!("{}: {why}", path.display()))
     }
 

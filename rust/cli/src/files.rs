@@ -2,7 +2,7 @@
 
 use crate::failure::Failure;
 use std::{
-    fs::File,
+    fs::{self, File},
     io::{self, Read, Write},
     path::Path,
 };
@@ -16,10 +16,15 @@ pub fn read(path: &Path, longest: usize) -> Result<Vec<u8>, Failure> {
     } else {
         File::open(path).and_then(|file| file.take(limit).read_to_end(&mut text))
     };
-    read.map(|_| text).map_err(|why| Failure::reading(path, why))
+    read.map(|_| text).map_err(|why| Failure::file(path, why))
 }
 
 pub fn write(text: &[u8]) -> Result<(), Failure> {
     let mut output = io::stdout();
     output.write_all(text).and_then(|()| output.flush()).map_err(Failure::writing)
+}
+
+/// A text into a file, in the place of what that held.
+pub fn write_to(path: &Path, text: &[u8]) -> Result<(), Failure> {
+    fs::write(path, text).map_err(|why| Failure::file(path, why))
 }

@@ -6,15 +6,18 @@ use std::ffi::OsString;
 const COMMANDS: &str = "\
 dock: tickets between the ward pads and the dock's ink store
 
-  dock trace [FROM]                                        answer a text of requests
+  dock trace [FROM] [--save FILE]                          answer a text of requests
   dock check [FROM] PAD PROGRAM NUMBER SHEET RIGHT         the dock's own check of one sheet
   dock report [FROM]                                       who can read what
   dock tree [FROM] [--svg]                                 the same for the eye
+  dock save [FROM]                                         the tables as text, for another dock
+  dock load [FILE]                                         does a text of tables load?
   dock help [COMMAND]                                      this, or a command's columns and an example
   dock --version
 
 FROM is the dock to start from:
   --trace FILE    the dock that these requests leave, from an emptied one ('-': standard input)
+  --tables FILE   a dock with these saved tables, and a store of zeros ('-': standard input)
   (nothing)       an emptied dock
 
 Exit status: 0, or the number of the refusal, which standard error then says in words;
@@ -22,7 +25,7 @@ Exit status: 0, or the number of the refusal, which standard error then says in 
 ";
 
 const TRACE: &str = "\
-dock trace [FROM] <requests >answers
+dock trace [FROM] [--save FILE] <requests >answers
 
 Reads requests, a line for each under the names
   pad program op ticket topad toprogram first count rights fill
@@ -34,6 +37,8 @@ and writes answers, a line for each under the names
   result    0, or the number of the refusal
   ticket, recipient    the new numbers that asker and recipient got
   byte      the first byte of the sheet that an accepted read brought
+
+  --save    the tables that are left go to FILE, as `dock save` writes them
 
 A text of more than 65536 bytes or with other names is answered by the line 0 15 0 0 0 alone.
 
@@ -95,12 +100,47 @@ Example, a picture of the dock after the requests of a file:
   dock tree --svg --trace requests >ward.svg
 ";
 
+const SAVE: &str = "\
+dock save [FROM]
+
+Writes the tables as text, without the store, under the names
+  kind pad program number own opad oprogram onumber first count rights
+
+  kind      0 a program: its last number given is number; 1 a taken grant, 2 a received one, 3 a child;
+            4 a recall; 5 an entry of the dock
+  pad, program, number    its name
+  own       of a recall, the number of the grant that it stands under
+  opad, oprogram, onumber    a child's parent, a recall's target, an entry's parent; 0 0 0 is the store
+  first, count, rights    of a grant or an entry: its sheets, counted in the store, and its rights
+
+Lines stand by kind, pad, program and number. What a kind does not use is 0.
+
+Example, the tables after the requests of a file, and who can read what in a dock that has them:
+  dock save --trace requests >tables
+  dock report --tables tables
+";
+
+const LOAD: &str = "\
+dock load [FILE]
+
+Does this text of tables load? Without FILE it is read from standard input. Prints nothing; the exit
+status is the answer.
+
+  status    0 yes, and `dock save` would write the same bytes; 18 the text has another form or order;
+            14 its tables are not in order
+
+Example:
+  dock save --trace requests | dock load
+";
+
 fn text(command: &str) -> Option<&'static str> {
     match command {
         "trace" => Some(TRACE),
         "check" => Some(CHECK),
         "report" => Some(REPORT),
         "tree" => Some(TREE),
+        "save" => Some(SAVE),
+        "load" => Some(LOAD),
         "help" => Some(COMMANDS),
         _ => None,
     }

@@ -40,6 +40,8 @@ fn run() -> Result<(), Failure> {
         Some("check") => commands::check(words),
         Some("report") => commands::report(words),
         Some("tree") => commands::tree(words),
+        Some("save") => commands::save(words),
+        Some("load") => commands::load(words),
         _ => Err(Failure::usage(format!("no command {}", command.display()))),
     }
 }

@@ -360,6 +360,8 @@ fn out_of_order(edges: &mut Edges) {
     }
     edges.put(ENTRY_BELOW, &[(ONUMBER, 0)], NOT_IN_ORDER);
     let mut rows = ward();
+    rows.remove(ENTRY_BELOW);
+    edges.rows("a loan whose entry has gone", &rows, LOADS);
     rows.remove(ENTRY);
     edges.rows("a taken grant without its entry", &rows, NOT_IN_ORDER);
     // T6.
