@@ -3,8 +3,10 @@
 //! usage: differential [REQUESTS] [SEED]
 
 mod damage;
+mod damaged_texts;
 mod follow;
 mod reports;
+mod saved;
 mod texts;
 
 use dock::{raw, ANSWER, RECALL, REQUEST};
@@ -14,6 +16,7 @@ use image::View;
 use model::{Answer, Name, Request, State, SEATS, SHEET, STORE};
 use reports::Reports;
 use requests::{Asker, Seats};
+use saved::Saved;
 use std::{env, process::ExitCode};
 
 /// What the answer buffer holds before a call, to see that 13 and 14 write nothing.
@@ -40,6 +43,7 @@ struct Counts {
     traces: usize,
     checks: usize,
     reports: Reports,
+    saved: Saved,
 }
 
 impl Counts {
@@ -57,6 +61,7 @@ impl Counts {
         let all = self.followed.rows().into_iter().chain(images).chain(one_clause).chain(others);
         rows.extend(all.map(|(what, count)| (what.to_string(), count)));
         rows.extend(self.reports.rows());
+        rows.extend(self.saved.rows());
         rows
     }
 }
@@ -244,6 +249,13 @@ fn resized<T: Copy + Default>(rng: &mut Rng, buffer: &[T]) -> Vec<T> {
     buffer
 }
 
+/// So many bytes, any.
+fn bytes(rng: &mut Rng, length: usize) -> Vec<u8> {
+    let mut bytes: Vec<u8> = (0..length.div_ceil(SHEET)).flat_map(|_| rng.sheet()).collect();
+    bytes.truncate(length);
+    bytes
+}
+
 /// Emptying, from whatever the buffers held, now and then with a wrong length.
 fn emptied(rng: &mut Rng, sides: &Sides) -> Result<Sides, String> {
     let empty = View::of(&State::empty());
@@ -299,6 +311,10 @@ impl Driver {
                     self.trace(&sides)?;
                 } else if self.rng.once_in(50) {
                     self.counts.reports.compare(&mut self.rng, &sides)?;
+                } else if self.rng.once_in(100) {
+                    self.counts.saved.compare(&mut self.rng, &sides)?;
+                } else if self.rng.once_in(100) {
+                    sides = self.counts.saved.swapped(&mut self.rng, &sides)?.unwrap_or(sides);
                 } else {
                     self.one(&mut sides, &mut asker)?;
                 }
@@ -329,6 +345,9 @@ impl Driver {
             sides.compare_order(&mut self.rng, &mut self.counts)?;
             if self.rng.once_in(15) {
                 self.counts.reports.compare(&mut self.rng, &sides)?;
+            }
+            if self.rng.once_in(60) {
+                self.counts.saved.compare(&mut self.rng, &sides)?;
             }
         }
         for (at, (_, broken)) in damage::ONE_CLAUSE.iter().enumerate() {
@@ -415,9 +434,9 @@ fn main() -> ExitCode {
     }
     let images = counts.in_order + counts.not_in_order;
     let (requests, batches, traces) = (counts.requests, counts.batches, counts.traces);
-    let reports = counts.reports.compared();
+    let (reports, texts) = (counts.reports.compared(), counts.saved.compared());
     println!(
-        "differential: {requests} requests, {images} images, {batches} batches, {traces} traces, {reports} reports, no difference"
+        "differential: {requests} requests, {images} images, {batches} batches, {traces} traces, {reports} reports, {texts} saved texts, no difference"
     );
     ExitCode::SUCCESS
 }

@@ -1,6 +1,6 @@
 //! Ward reports: the library's `dock_report` against the model's, from the same tables, and what must hold of every report.
 
-use crate::{differ, resized, Sides};
+use crate::{bytes, differ, resized, Sides};
 use dock::{raw, READ, REPORT_ROOM, REPORT_SCRATCH, WRITE};
 use image::random::Rng;
 use model::{Name, Refusal, Request, State, Ticket, SHEET, SHEETS};
@@ -129,10 +129,4 @@ fn held(state: &State, rights: &BTreeMap<Name, usize>) -> Result<(), String> {
 fn numbers(text: &str) -> Vec<Vec<usize>> {
     let lines = text.lines().skip(1);
     lines.map(|line| line.split(' ').map(|word| word.parse().expect("a number")).collect()).collect()
-}
-
-fn bytes(rng: &mut Rng, length: usize) -> Vec<u8> {
-    let mut bytes: Vec<u8> = (0..length.div_ceil(SHEET)).flat_map(|_| rng.sheet()).collect();
-    bytes.truncate(length);
-    bytes
 }
