@@ -104,6 +104,34 @@ static void report_without_room(void)
     report_into(0);
 }
 
+/* The tables as text, into an output that every text fits into, and into none at all. */
+static size_t saved_length;
+
+static void save_into(size_t output_length)
+{
+    result = dock_save(dock.tables, DOCK_TABLES, output, output_length, &saved_length);
+}
+
+static void save(void)
+{
+    save_into(DOCK_SAVED_ROOM);
+}
+
+static void save_without_room(void)
+{
+    save_into(0);
+}
+
+/* A text, loaded into tables of their own. */
+static char made_text[65536];
+static size_t made_length;
+
+static void load(void)
+{
+    static uint8_t loaded[DOCK_TABLES];
+    result = dock_load(loaded, DOCK_TABLES, (const uint8_t *)made_text, made_length);
+}
+
 static void *run(void *what)
 {
     (*(void (**)(void))what)();
@@ -155,6 +183,88 @@ static void ask(const char *name, struct dock_request asked, unsigned wanted)
     measure(name, step, wanted);
 }
 
+/* Lines of a saved text, made here, because tables out of order have no other. */
+
+enum { COLUMNS = 11 };
+static unsigned lines[DOCK_PADS * DOCK_PROGRAMS * (1 + DOCK_PLACES) + DOCK_ENTRIES][COLUMNS];
+static unsigned line_count;
+
+static void add_line(unsigned kind, unsigned pad, unsigned program, unsigned number)
+{
+    unsigned *line = lines[line_count++];
+    memset(line, 0, sizeof lines[0]);
+    line[0] = kind;
+    line[1] = pad;
+    line[2] = program;
+    line[3] = number;
+}
+
+/* Three numbers of the image, which stand in a row, into the last line. */
+static void add_numbers(unsigned column, size_t at)
+{
+    unsigned i;
+    for (i = 0; i < 3; i++)
+        lines[line_count - 1][column + i] = get(at + 2 * i);
+}
+
+static void add_ticket(struct who who, size_t at)
+{
+    unsigned kind = get(at + DOCK_TICKET_KIND_AT);
+
+    if (kind == DOCK_KIND_FREE)
+        return;
+    add_line(kind, who.pad, who.program, get(at + DOCK_TICKET_NUMBER_AT));
+    if (kind == DOCK_KIND_RECALL)
+        lines[line_count - 1][4] = get(at + DOCK_TICKET_OWN_AT);
+    if (kind == DOCK_KIND_RECALL || kind == DOCK_KIND_CHILD)
+        add_numbers(5, at + DOCK_TICKET_OTHER_AT);
+    if (kind != DOCK_KIND_RECALL)
+        add_numbers(8, at + DOCK_TICKET_FIRST_AT);
+}
+
+static void add_entry(size_t at)
+{
+    if (!get(at + DOCK_ENTRY_LIVE_AT))
+        return;
+    add_line(5, get(at + DOCK_ENTRY_NAME_AT), get(at + DOCK_ENTRY_NAME_AT + DOCK_NAME_PROGRAM_AT),
+             get(at + DOCK_ENTRY_NAME_AT + DOCK_NAME_NUMBER_AT));
+    add_numbers(5, at + DOCK_ENTRY_PARENT_AT);
+    add_numbers(8, at + DOCK_ENTRY_FIRST_AT);
+}
+
+static int by_place(const void *one, const void *two)
+{
+    const unsigned *a = one, *b = two;
+    unsigned i = 0;
+    while (i < 3 && a[i] == b[i])
+        i++;
+    return (a[i] > b[i]) - (a[i] < b[i]);
+}
+
+/* What a saved text of the image says, in order or not. */
+static void make_text(void)
+{
+    char *end = made_text;
+    struct who who;
+    unsigned place, i, column;
+
+    line_count = 0;
+    for (who.pad = 0; who.pad < DOCK_PADS; who.pad++)
+        for (who.program = 0; who.program < DOCK_PROGRAMS; who.program++) {
+            add_line(0, who.pad, who.program, get(last_at(who)));
+            for (place = 0; place < DOCK_PLACES; place++)
+                add_ticket(who, place_at(who, place));
+        }
+    for (place = 0; place < DOCK_ENTRIES; place++)
+        add_entry(entry_place_at(place));
+    qsort(lines, line_count, sizeof lines[0], by_place);
+    end += sprintf(end, "kind pad program number own opad oprogram onumber first count rights\n");
+    for (i = 0; i < line_count; i++)
+        for (column = 0; column < COLUMNS; column++)
+            end += sprintf(end, "%u%c", lines[i][column], column + 1 < COLUMNS ? ' ' : '\n');
+    made_length = (size_t)(end - made_text);
+}
+
 /* Docks that were reached or made, for the damaged ones further down. */
 static struct dock bases[16];
 static unsigned base_count;
@@ -172,6 +282,16 @@ static void measure_order(const char *name, unsigned wanted)
     measure("  dock_serve", serve, wanted);
     if (wanted != DOCK_ACCEPTED)
         measure("  dock_step", step, wanted);
+    measure("  dock_save, no room", save_without_room, wanted == DOCK_ACCEPTED ? DOCK_TOO_SHORT : wanted);
+    measure("  dock_save", save, wanted);
+    make_text();
+    if (wanted == DOCK_ACCEPTED && (saved_length != made_length || memcmp(output, made_text, made_length) != 0)) {
+        fprintf(stderr, "stack: %s: another text than the tables'\n", name);
+        exit(1);
+    }
+    measure("  dock_load", load, wanted);
+    made_length--;
+    measure("  dock_load, cut", load, DOCK_BAD_TEXT);
     measure_into(&most_of_reports, "  dock_report, no room", report_without_room, wanted == DOCK_ACCEPTED ? DOCK_TOO_SHORT : wanted);
     measure_into(&most_of_reports, "  dock_report", report, wanted);
     measure_into(&most_of_traces, "  dock_trace, no room", trace_without_room, wanted == DOCK_ACCEPTED ? DOCK_TOO_SHORT : wanted);
@@ -585,6 +705,26 @@ static void use_damaged_images(void)
     result = DOCK_ACCEPTED;
 }
 
+static unsigned loaded[DOCK_BAD_TEXT + 1];
+
+/* Saves them and loads their texts, some of which are cut. */
+static void save_damaged_images(void)
+{
+    unsigned i;
+
+    for (i = 0; i < IMAGES; i++) {
+        another_image(i);
+        save();
+        save_without_room();
+        make_text();
+        if (i % 16 == 1)
+            made_length = below((unsigned)made_length + 1);
+        load();
+        loaded[result]++;
+    }
+    result = DOCK_ACCEPTED;
+}
+
 static void report_damaged_images(void)
 {
     unsigned i;
@@ -608,9 +748,15 @@ int main(void)
     use_stale_chain();
     use_made_images();
     measure("damaged images", use_damaged_images, DOCK_ACCEPTED);
+    measure("damaged images and texts", save_damaged_images, DOCK_ACCEPTED);
     measure_into(&most_of_reports, "reports of damaged images", report_damaged_images, DOCK_ACCEPTED);
     if (in_order < IMAGES / 20 || not_in_order < IMAGES / 2) {
         fprintf(stderr, "stack: %u images in order and %u not: too few of one sort\n", in_order, not_in_order);
+        return 1;
+    }
+    if (loaded[DOCK_ACCEPTED] < IMAGES / 20 || loaded[DOCK_NOT_IN_ORDER] < IMAGES / 20 || loaded[DOCK_BAD_TEXT] < IMAGES / 20) {
+        fprintf(stderr, "stack: %u texts loaded, %u and %u refused: too few of one sort\n", loaded[DOCK_ACCEPTED], loaded[DOCK_NOT_IN_ORDER],
+                loaded[DOCK_BAD_TEXT]);
         return 1;
     }
     printf("stack: at most %zu bytes, dock_report %zu, dock_trace %zu; %u images not in order among those tried\n", most, most_of_reports,
