@@ -548,6 +548,22 @@ static void reports(int line, size_t tables_length, size_t scratch_length, size_
     free(output);
 }
 
+/* Saves into an output of so many bytes: what is left is compared. */
+static void saves(int line, size_t tables_length, size_t room, unsigned result, const char *expected, size_t expected_length)
+{
+    uint8_t *image = block(tables_length, 0), *output = block(room, 7);
+    size_t of_tables = tables_length < DOCK_TABLES ? tables_length : DOCK_TABLES, length = 1;
+
+    memcpy(image, tables, of_tables);
+    equal(line, dock_save(image, tables_length, output, room, &length), result, "dock_save");
+    equal(line, length, expected_length, "the length of the text");
+    holds(line, memcmp(output, expected, length) == 0, "the text");
+    holds(line, all(output + length, room - length, 7), "the output behind it");
+    holds(line, memcmp(image, tables, of_tables) == 0, "the tables after saving");
+    free(image);
+    free(output);
+}
+
 /* Each routine refuses these tables, and changes nothing. */
 static void not_in_order(int line)
 {
@@ -557,6 +573,7 @@ static void not_in_order(int line)
     equal(line, dock_in_order(tables, DOCK_TABLES), DOCK_NOT_IN_ORDER, "dock_in_order");
     equal(line, dock_check(tables, DOCK_TABLES, 0, 0, 1, 0, DOCK_RIGHT_READ), DOCK_NOT_IN_ORDER, "dock_check");
     reports(line, DOCK_TABLES, DOCK_REPORT_SCRATCH, DOCK_REPORT_ROOM, DOCK_NOT_IN_ORDER, "");
+    saves(line, DOCK_TABLES, DOCK_SAVED_ROOM, DOCK_NOT_IN_ORDER, "", 0);
     serve_one(line, take(nurse, 1, ALL), 7, DOCK_NOT_IN_ORDER, 0, 0);
     served = dock_serve(tables, DOCK_TABLES, store, DOCK_STORE, sheet, DOCK_SHEET, request, DOCK_REQUEST, answer,
                         DOCK_ANSWER);
@@ -600,7 +617,7 @@ static void refused_tables(void)
 static void names(void)
 {
     static const char none[] = "no such result";
-    const char *found[DOCK_TOO_SHORT + 1];
+    const char *found[DOCK_BAD_TEXT + 1];
     unsigned results = 0, i, number;
 
     begin("names");
@@ -608,13 +625,13 @@ static void names(void)
         const char *name = dock_result_name((uint16_t)number);
         if (strcmp(name, none) == 0)
             continue;
-        HOLDS(number <= DOCK_TOO_SHORT);
+        HOLDS(number <= DOCK_BAD_TEXT);
         HOLDS(name[0] != 0);
         for (i = 0; i < results; i++)
             HOLDS(strcmp(name, found[i]) != 0);
         found[results++] = name;
     }
-    EQUAL(results, DOCK_TOO_SHORT + 1); /* 0 to 17 */
+    EQUAL(results, DOCK_BAD_TEXT + 1); /* 0 to 18 */
     EQUAL(strcmp(dock_result_name(DOCK_ACCEPTED), "accepted"), 0);
     EQUAL(strcmp(dock_result_name(DOCK_NO_ENTRY), "the dock has no entry for the ticket"), 0);
     end();
@@ -647,10 +664,7 @@ static void is_entry(int line, struct name name, struct name parent, unsigned fi
 {
     size_t at = entry_at(line, name);
 
-    if (parent.number == 0)
-        equal(line, get(at + DOCK_ENTRY_PARENT_AT + DOCK_NAME_NUMBER_AT), 0, "the number of the store as a parent");
-    else
-        holds(line, is_name(at + DOCK_ENTRY_PARENT_AT, parent), "an entry's parent");
+    holds(line, is_name(at + DOCK_ENTRY_PARENT_AT, parent), "an entry's parent");
     equal(line, get(at + DOCK_ENTRY_FIRST_AT), first, "an entry's first");
     equal(line, get(at + DOCK_ENTRY_COUNT_AT), count, "an entry's count");
     equal(line, get(at + DOCK_ENTRY_RIGHTS_AT), rights, "an entry's rights");
@@ -715,7 +729,7 @@ static void image_read(void)
 /* What a host writes into the image is what the library reads there: a taken grant and its entry. */
 static void image_written(void)
 {
-    const struct name name = {2, 3, 9}, the_store = {0, 0, 0}, nobody = {9, 9, 0};
+    const struct name name = {2, 3, 9}, the_store = {0, 0, 0};
     const size_t ticket = place_at(next, 5), entry = entry_place_at(77);
     size_t i;
 
@@ -759,6 +773,8 @@ static void image_written(void)
     SPOILT(entry + DOCK_ENTRY_NAME_AT + DOCK_NAME_PAD_AT, 1);
     SPOILT(entry + DOCK_ENTRY_NAME_AT + DOCK_NAME_PROGRAM_AT, 2);
     SPOILT(entry + DOCK_ENTRY_NAME_AT + DOCK_NAME_NUMBER_AT, 8);
+    SPOILT(entry + DOCK_ENTRY_PARENT_AT + DOCK_NAME_PAD_AT, 1); /* only zeros are the store */
+    SPOILT(entry + DOCK_ENTRY_PARENT_AT + DOCK_NAME_PROGRAM_AT, 1);
     SPOILT(entry + DOCK_ENTRY_PARENT_AT + DOCK_NAME_NUMBER_AT, 1);
     SPOILT(entry + DOCK_ENTRY_FIRST_AT, 199);
     SPOILT(entry + DOCK_ENTRY_COUNT_AT, 3);
@@ -770,8 +786,7 @@ static void image_written(void)
     for (i = DOCK_TICKET_KIND_AT + 2; i < DOCK_TICKET_SIZE; i++)
         tables[place_at(next, 4) + i] = 0xff; /* a free place */
     for (i = DOCK_ENTRY_LIVE_AT + 2; i < DOCK_ENTRY_SIZE; i++)
-        tables[entry_place_at(78) + i] = 0xff;      /* no entry */
-    put_name(entry + DOCK_ENTRY_PARENT_AT, nobody); /* number 0: the store all the same */
+        tables[entry_place_at(78) + i] = 0xff; /* no entry */
     EQUAL(dock_in_order(tables, DOCK_TABLES), DOCK_ACCEPTED);
     READS(read_at(next, 9, 1), 67);
     EQUAL(live_tickets(), 1);
@@ -1022,6 +1037,221 @@ static void reporting(void)
     end();
 }
 
+/* The tables as text. */
+
+#define KINDS "kind pad program number own opad oprogram onumber first count rights\n"
+
+/* The text of these tables: the names, the last number of each program, and these lines. */
+static const char *text_of(const char *lines)
+{
+    static char text[DOCK_SAVED_ROOM + 1];
+    char *end = text + sprintf(text, KINDS);
+    struct who who;
+
+    for (who.pad = 0; who.pad < DOCK_PADS; who.pad++)
+        for (who.program = 0; who.program < DOCK_PROGRAMS; who.program++)
+            end += sprintf(end, "0 %u %u %u 0 0 0 0 0 0 0\n", who.pad, who.program, get(last_at(who)));
+    strcpy(end, lines);
+    return text;
+}
+
+/* Loads a text over tables full of 255s. What loads is what saving writes; what is refused leaves the tables of an emptied dock. */
+static unsigned loaded(int line, const char *text, size_t length)
+{
+    uint8_t *image = block(DOCK_TABLES, 255), *input = copy(text, length), *kept = tables;
+    unsigned result = dock_load(image, DOCK_TABLES, input, length);
+
+    holds(line, memcmp(input, text, length) == 0, "the text untouched");
+    tables = image;
+    if (result == DOCK_ACCEPTED)
+        saves(line, DOCK_TABLES, length, DOCK_ACCEPTED, text, length);
+    else
+        holds(line, all(tables, DOCK_TABLES, 0), "the tables after a refused load");
+    tables = kept;
+    free(image);
+    free(input);
+    return result;
+}
+
+static void loads(int line, const char *text, unsigned result)
+{
+    equal(line, loaded(line, text, strlen(text)), result, "dock_load");
+}
+
+/* The tables have this text, with room for it or more; with less it is refused. Tables of another length come first. */
+static void is_saved(int line, const char *text)
+{
+    const size_t whole = strlen(text);
+    const size_t enough[] = {whole, whole + 1, DOCK_SAVED_ROOM - 1, DOCK_SAVED_ROOM, DOCK_SAVED_ROOM + 1};
+    const size_t too_short[] = {0, 1, whole / 2, whole - 1};
+    const size_t other[] = {0, DOCK_TABLES - 1, DOCK_TABLES + 1};
+    size_t i;
+
+    for (i = 0; i < sizeof enough / sizeof *enough; i++)
+        saves(line, DOCK_TABLES, enough[i], DOCK_ACCEPTED, text, whole);
+    for (i = 0; i < sizeof too_short / sizeof *too_short; i++)
+        saves(line, DOCK_TABLES, too_short[i], DOCK_TOO_SHORT, "", 0);
+    for (i = 0; i < sizeof other / sizeof *other; i++) {
+        uint8_t *image = block(other[i], 255);
+        saves(line, other[i], whole, DOCK_LENGTH, "", 0);
+        equal(line, dock_load(image, other[i], (const uint8_t *)text, whole), DOCK_LENGTH, "dock_load");
+        holds(line, all(image, other[i], 255), "the tables after 13");
+        free(image);
+    }
+    loads(line, text, DOCK_ACCEPTED);
+}
+
+/* A copy of the text with these characters in the place of others, which it has once. */
+static const char *with(const char *text, const char *old, const char *new)
+{
+    static char changed[DOCK_SAVED_ROOM + 1];
+    const char *at = strstr(text, old);
+
+    if (!at || strstr(at + 1, old))
+        fail(__LINE__, "not once in the text");
+    sprintf(changed, "%.*s%s%s", (int)(at - text), text, new, at + strlen(old));
+    return changed;
+}
+
+/* Each refusal by one change, beside changes that load. */
+static void changed_texts(const char *text)
+{
+    loads(__LINE__, with(text, "0 3 7 0 ", "0 3 7 65535 "), DOCK_ACCEPTED);
+    loads(__LINE__, with(text, "0 3 7 0 ", "0 3 7 65536 "), DOCK_BAD_TEXT);
+    loads(__LINE__, with(text, "0 3 7 0 ", "0 3 7 00 "), DOCK_BAD_TEXT);
+    loads(__LINE__, with(text, "0 3 7 0 ", "0 3 7 0  "), DOCK_BAD_TEXT);
+    loads(__LINE__, with(text, "0 3 7 0 0", "0 3 7 0"), DOCK_BAD_TEXT);
+    loads(__LINE__, with(text, "0 3 7 0 0", "0 3 7 0 1"), DOCK_BAD_TEXT); /* unused and not 0 */
+    loads(__LINE__, with(text, "0 3 7 0 0 0 0 0 0 0 0\n", ""), DOCK_BAD_TEXT);
+    loads(__LINE__, with(text, "0 3 7 0 0 0 0 0 0 0 0\n", "0 3 7 0 0 0 0 0 0 0 0\n0 3 7 1 0 0 0 0 0 0 0\n"), DOCK_BAD_TEXT);
+    loads(__LINE__, with(text, "kind pad", "kind  pad"), DOCK_BAD_TEXT);
+    loads(__LINE__, with(text, "\n5 1 0 1 ", "\n6 1 0 1 "), DOCK_BAD_TEXT); /* kind, pad, program, opad, oprogram */
+    loads(__LINE__, with(text, "\n5 1 0 1 ", "\n5 4 0 1 "), DOCK_BAD_TEXT);
+    loads(__LINE__, with(text, "\n5 1 0 1 ", "\n5 1 8 1 "), DOCK_BAD_TEXT);
+    loads(__LINE__, with(text, "\n5 1 0 1 0 0 0 1 ", "\n5 1 0 1 0 4 0 1 "), DOCK_BAD_TEXT);
+    loads(__LINE__, with(text, "\n5 1 0 1 0 0 0 1 ", "\n5 1 0 1 0 0 8 1 "), DOCK_BAD_TEXT);
+    loads(__LINE__, with(text, "\n5 1 0 1 0 0 0 1 ", "\n5 1 0 1 0 0 7 1 "), DOCK_NOT_IN_ORDER);
+    loads(__LINE__, with(text, "\n5 0 0 1 0 0 0 0 ", "\n5 0 0 1 0 0 1 0 "), DOCK_NOT_IN_ORDER); /* only zeros are the store */
+    loads(__LINE__, with(text, "\n1 0 0 1 ", "\n1 0 0 3 "), DOCK_NOT_IN_ORDER);
+    loads(__LINE__, with(text, "\n1 0 0 1 0 0 0 0 0 4 7", "\n1 0 0 1 0 0 0 0 0 4 8"), DOCK_NOT_IN_ORDER);
+    loads(__LINE__, with(text, "\n5 0 0 1 ", "\n\n5 0 0 1 "), DOCK_BAD_TEXT);
+    loads(__LINE__, "", DOCK_BAD_TEXT);
+    loads(__LINE__, KINDS, DOCK_BAD_TEXT);
+}
+
+/* Texts cut at every byte, and texts with some bytes that are any: whatever the result, the rest is as loaded says. */
+static void any_texts(const char *text)
+{
+    static char changed[DOCK_SAVED_ROOM + 1];
+    const size_t whole = strlen(text);
+    uint32_t seed = 1;
+    size_t length;
+    unsigned i, j;
+
+    for (length = 0; length < whole; length++)
+        if (length == 0 || text[length - 1] != '\n')
+            EQUAL(loaded(__LINE__, text, length), DOCK_BAD_TEXT);
+        else
+            loaded(__LINE__, text, length);
+    for (i = 0; i < 1000; i++) {
+        memcpy(changed, text, whole);
+        for (j = 0; j <= i % 3; j++) {
+            seed = seed * 1664525u + 1013904223u;
+            changed[(seed >> 8) % whole] = i % 2 ? (char)(seed >> 24) : "0123456789 \n"[(seed >> 24) % 12];
+        }
+        loaded(__LINE__, changed, whole);
+    }
+    for (i = 0; i < 256; i++) {
+        memset(changed, (int)i, sizeof changed);
+        EQUAL(loaded(__LINE__, changed, sizeof changed), DOCK_BAD_TEXT);
+    }
+}
+
+/* Tables with some fields that are any, and tables of any bytes: saved or refused with 14, and never changed. */
+static void any_tables(void)
+{
+    uint8_t *image = block(DOCK_TABLES, 0), *before, *output = block(DOCK_SAVED_ROOM, 0);
+    uint32_t seed = 1;
+    size_t length, at;
+    unsigned i, result;
+
+    for (i = 0; i < 500; i++) {
+        memcpy(image, tables, DOCK_TABLES);
+        for (at = 0; at < DOCK_TABLES; at++) {
+            seed = seed * 1664525u + 1013904223u;
+            if (i % 50 == 0 || seed >> 20 == 0)
+                image[at] = (uint8_t)(seed >> 8) % (i % 2 ? 9 : 255);
+        }
+        before = copy(image, DOCK_TABLES);
+        result = dock_save(image, DOCK_TABLES, output, DOCK_SAVED_ROOM, &length);
+        HOLDS(result == dock_in_order(image, DOCK_TABLES));
+        HOLDS(length <= DOCK_SAVED_ROOM && (length > 0) == (result == DOCK_ACCEPTED));
+        HOLDS(memcmp(image, before, DOCK_TABLES) == 0);
+        free(before);
+    }
+    free(image);
+    free(output);
+}
+
+/* Eight tickets of one program, with numbers of five digits, and a ninth; the lines of more entries than there are places. */
+static void many_lines(void)
+{
+    static char lines[DOCK_SAVED_ROOM + 1], more[DOCK_SAVED_ROOM + 1];
+    char *end = lines, *entries = more;
+    unsigned i;
+
+    start();
+    put(last_at(next), 65535 - DOCK_PLACES);
+    for (i = 1; i <= DOCK_PLACES; i++) {
+        ACCEPTED(take(next, 1, ALL), 65535 - DOCK_PLACES + i, 0);
+        end += sprintf(end, "1 2 3 %u 0 0 0 0 %u 1 7\n", 65535 - DOCK_PLACES + i, i - 1);
+        entries += sprintf(entries, "5 2 3 %u 0 0 0 0 %u 1 7\n", 65535 - DOCK_PLACES + i, i - 1);
+    }
+    strcpy(end, more);
+    is_saved(__LINE__, text_of(lines));
+    strcpy(end, "4 2 3 1 65535 0 0 1 0 0 0\n");
+    loads(__LINE__, text_of(lines), DOCK_BAD_TEXT); /* a ninth ticket */
+    start();
+    for (i = 1, end = lines; i <= DOCK_ENTRIES + 1; i++)
+        end += sprintf(end, "5 2 3 %u 0 0 0 0 0 1 7\n", i);
+    loads(__LINE__, text_of(lines), DOCK_BAD_TEXT);
+    end[-(int)strlen("5 2 3 257 0 0 0 0 0 1 7\n")] = 0;
+    loads(__LINE__, text_of(lines), DOCK_NOT_IN_ORDER);
+}
+
+static void saving(void)
+{
+    const char *lent = "1 0 0 1 0 0 0 0 0 4 7\n2 1 0 1 0 0 0 0 1 1 1\n3 0 1 1 0 0 0 1 0 2 5\n4 0 0 2 1 0 1 1 0 0 0\n"
+                       "4 0 1 2 1 1 0 1 0 0 0\n5 0 0 1 0 0 0 0 0 4 7\n5 1 0 1 0 0 0 1 1 1 1\n";
+    const char *longest = "3 3 7 65535 0 3 7 65535 255 256 7\n";
+    uint8_t *before;
+
+    begin("tables as text");
+    EQUAL(strlen(longest), strlen("4 3 7 65535 65535 3 7 65535 0 0 0\n"));
+    EQUAL(DOCK_SAVED_ROOM, strlen(KINDS) + DOCK_PADS * DOCK_PROGRAMS * strlen("0 3 7 65535 0 0 0 0 0 0 0\n") +
+                               (DOCK_PADS * DOCK_PROGRAMS * DOCK_PLACES + DOCK_ENTRIES) * strlen(longest));
+    start();
+    is_saved(__LINE__, text_of(""));
+    ACCEPTED(take(capture, 4, ALL), 1, 0);
+    WRITTEN(write_at(capture, 1, 1), 65);
+    ACCEPTED(pass(capture, 1, viewer, 0, 2, DOCK_RIGHT_READ + DOCK_RIGHT_PASS_ON), 2, 1);
+    ACCEPTED(pass(viewer, 1, nurse, 1, 1, DOCK_RIGHT_READ), 2, 1);
+    is_saved(__LINE__, text_of(lent));
+    changed_texts(text_of(lent));
+    any_texts(text_of(lent));
+    any_tables();
+    /* The tables go over by text, the store stays: every ticket is as it was. */
+    before = copy(store, DOCK_STORE);
+    EQUAL(dock_load(tables, DOCK_TABLES, (const uint8_t *)text_of(lent), strlen(text_of(lent))), DOCK_ACCEPTED);
+    HOLDS(memcmp(store, before, DOCK_STORE) == 0);
+    READS(read_at(nurse, 1, 0), 65);
+    ACCEPTED(recall(capture, 2), 0, 0);
+    REFUSED(read_at(nurse, 1, 0), DOCK_NO_ENTRY);
+    free(before);
+    many_lines();
+    end();
+}
+
 int main(void)
 {
     tables = block(DOCK_TABLES, 1);
@@ -1042,6 +1272,7 @@ int main(void)
     names();
     tracing();
     reporting();
+    saving();
     printf("constants: %u checks passed\n", passed);
     free(tables);
     free(store);
