@@ -3,20 +3,23 @@
 //!
 //! usage: isolation [REQUESTS] [SEED]     REQUESTS of groups, at least, are compared
 //!
-//! As document 01 has it: no pass crosses the group's edge, both runs begin with an emptied dock, and a take
-//! gets 11 in both runs or in neither. Where a take does not, the pair ends. The empty group asks nothing.
+//! As document 01 has it: no pass crosses the group's edge, and a take gets 11 in both runs or in neither. Where a
+//! take does not, the pair ends. The empty group asks nothing. Both runs begin with an emptied dock or, by document
+//! 02's fourth request, with the same loaded tables, in which no link joins the group to the others, and one store.
 
 mod run;
 
 use image::random::Rng;
 use model::{Name, SEATS};
 use requests::Seats;
-use run::{Exchange, Run, Source};
+use run::{Exchange, Run, Source, Start};
 use std::{env, process::ExitCode};
 
 #[derive(Default)]
 struct Counts {
     pairs: usize,
+    /// Pairs that began with loaded tables.
+    loaded: usize,
     ended_by_11: usize,
     compared: usize,
     accepted: usize,
@@ -33,6 +36,8 @@ impl Counts {
             Some("hardly any read was accepted")
         } else if self.others_accepted < self.compared {
             Some("hardly any request of the others was accepted")
+        } else if 3 * self.loaded < self.pairs {
+            Some("hardly any pair began with loaded tables")
         } else if 3 * self.ended_by_11 > 2 * self.pairs {
             Some("most pairs ended by 11")
         } else {
@@ -87,11 +92,15 @@ fn compare(one: &[Exchange], two: &[Exchange], counts: &mut Counts) -> Result<()
 /// Two runs with one group. Where `leaky`, the others pass something to the group in the first.
 fn pair(rng: &mut Rng, leaky: bool, counts: &mut Counts) -> Result<(), String> {
     let group = random_group(rng);
+    let loaded = rng.once_in(2);
+    let start = if loaded { Start::loaded(rng, &group) } else { Start::emptied() };
     let length = 40 + rng.below(260);
     let asked = Source::new(rng, group.clone());
-    let (one, others_of_one) = Run::new(rng, &group, asked, leaky).play(length);
-    let (two, others_of_two) = Run::new(rng, &group, Source::Repeated(one.iter()), false).play(one.len());
+    let (one, others_of_one) = Run::new(rng, &group, asked, &start, leaky).play(length);
+    let again = Source::Repeated(one.iter());
+    let (two, others_of_two) = Run::new(rng, &group, again, &start, false).play(one.len());
     counts.pairs += 1;
+    counts.loaded += usize::from(loaded);
     counts.others_accepted += others_of_one + others_of_two;
     compare(&one, &two, counts).map_err(|difference| {
         let programs: Vec<Name> =
@@ -115,8 +124,9 @@ fn main() -> ExitCode {
             return ExitCode::FAILURE;
         }
     }
-    let Counts { pairs, ended_by_11, compared, accepted, reads, others_accepted } = counts;
+    let Counts { pairs, loaded, ended_by_11, compared, accepted, reads, others_accepted } = counts;
     println!("pairs of runs               {pairs:>9}");
+    println!("  from loaded tables        {loaded:>9}");
     println!("  ended by 11               {ended_by_11:>9}");
     println!("requests of groups compared {compared:>9}");
     println!("  accepted                  {accepted:>9}");
@@ -126,7 +136,7 @@ fn main() -> ExitCode {
         println!("the comparison is idle: {why}");
         return ExitCode::FAILURE;
     }
-    println!("isolation: {pairs} pairs, {compared} requests compared, {accepted} accepted, {reads} reads, no difference");
+    println!("isolation: {pairs} pairs, {loaded} from loaded tables, {compared} requests compared, {accepted} accepted, {reads} reads, no difference");
     ExitCode::SUCCESS
 }
 

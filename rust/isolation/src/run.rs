@@ -3,9 +3,9 @@
 //! The words are those of crates/machine/specs/Sequence.antt. The model goes along, so that requests can be
 //! chosen that mean something; only what the library answers is kept.
 
-use dock::{raw, Dock, ANSWER};
+use dock::{raw, Dock, ANSWER, SAVED_ROOM};
 use image::random::Rng;
-use model::{Answer, Name, Request, State, SHEET, STORE};
+use model::{Answer, Name, Request, State, SHEET};
 use requests::{to_seat, Asker, Seats};
 
 /// A request with the bytes of its own sheet buffer.
@@ -57,6 +57,34 @@ impl Source<'_> {
     }
 }
 
+/// What both runs begin with.
+pub struct Start {
+    dock: Dock,
+    /// The model's tables.
+    state: State,
+}
+
+impl Start {
+    pub fn emptied() -> Self {
+        Start { dock: Dock::new(), state: State::empty() }
+    }
+
+    /// Tables that were saved and loaded, with any store. No link joins the group to the others, because they are
+    /// what a run left in which no pass crossed the edge.
+    pub fn loaded(rng: &mut Rng, group: &Seats) -> Self {
+        let (asked, length) = (Source::new(rng, group.clone()), 10 + rng.below(90));
+        let old = Run::new(rng, group, asked, &Start::emptied(), false).leave(length);
+        let (mut dock, mut text) = (Dock::new(), [0; SAVED_ROOM]);
+        let length = old.save(&mut text).expect("a run leaves tables in order");
+        dock.load(&text[..length]).expect("what was saved loads");
+        for sheet in dock.store.chunks_exact_mut(SHEET) {
+            sheet.copy_from_slice(&rng.sheet());
+        }
+        let state = image::to_model(&dock.tables[..]).expect("what was loaded are tables");
+        Start { dock, state }
+    }
+}
+
 pub struct Run<'a> {
     rng: &'a mut Rng,
     group: &'a Seats,
@@ -75,7 +103,13 @@ pub struct Run<'a> {
 }
 
 impl<'a> Run<'a> {
-    pub fn new(rng: &'a mut Rng, group: &'a Seats, group_source: Source<'a>, leaky: bool) -> Self {
+    pub fn new(
+        rng: &'a mut Rng,
+        group: &'a Seats,
+        group_source: Source<'a>,
+        start: &Start,
+        leaky: bool,
+    ) -> Self {
         Run {
             others_source: Source::new(rng, group.rest()),
             others_share: rng.below(4),
@@ -83,9 +117,9 @@ impl<'a> Run<'a> {
             group,
             group_source,
             leaky,
-            dock: Dock::new(),
-            state: State::empty(),
-            store: vec![0; STORE],
+            dock: start.dock.clone(),
+            state: start.state.clone(),
+            store: start.dock.store.to_vec(),
             exchanges: Vec::new(),
             others_accepted: 0,
         }
@@ -94,13 +128,23 @@ impl<'a> Run<'a> {
     /// Plays until the group has had so many answers. Returns them, and how many of the others' requests
     /// were accepted.
     pub fn play(mut self, answers: usize) -> (Vec<Exchange>, usize) {
+        self.serve_until(answers);
+        (self.exchanges, self.others_accepted)
+    }
+
+    /// Plays likewise. Returns the dock that is left.
+    pub fn leave(mut self, answers: usize) -> Dock {
+        self.serve_until(answers);
+        self.dock
+    }
+
+    fn serve_until(&mut self, answers: usize) {
         while self.exchanges.len() < answers {
             self.serve_some();
             if self.rng.once_in(8) {
                 self.serve_none();
             }
         }
-        (self.exchanges, self.others_accepted)
     }
 
     /// One request by dock_step, or some by dock_serve.
@@ -114,7 +158,7 @@ impl<'a> Run<'a> {
         let call = if batch || sent.is_empty() { raw::serve } else { raw::step };
         let (tables, store) = (&mut self.dock.tables[..], &mut self.dock.store[..]);
         let result = call(tables, store, sheets.as_flattened_mut(), &requests, answers.as_flattened_mut());
-        assert!(result != 13 && result != 14, "result {result} from an emptied dock");
+        assert!(result != 13 && result != 14, "result {result} from tables in order");
         for ((sent, answer), left) in sent.into_iter().zip(answers).zip(sheets) {
             if from_group(self.group, &sent.request) {
                 self.exchanges.push(Exchange { sent, answer, left });
@@ -142,7 +186,7 @@ impl<'a> Run<'a> {
             4 => raw::serve(tables, &mut store[1..], &mut sheet, &take, &mut answer),
             _ => raw::serve(tables, store, &mut sheet[1..], &take, &mut answer),
         };
-        assert_eq!(result, 13, "a wrong length, or the order of tables from an emptied dock");
+        assert_eq!(result, 13, "a wrong length, or the order of tables that were in order");
     }
 
     /// The next request of either side; nothing where the group has no more to repeat.
