@@ -3,17 +3,23 @@
 /// The numbers of a line, or nothing where the line has another form: decimal, no leading zeros, at most 65,535,
 /// one space between.
 pub(crate) fn numbers<const N: usize>(line: &[u8]) -> Option<[u16; N]> {
-    let values: Vec<u16> = line.split(|&byte| byte == b' ').map(value).collect::<Option<_>>()?;
-    values.try_into().ok()
+    let mut values = line.split(|&byte| byte == b' ').map(value);
+    let mut numbers = [0; N];
+    for number in &mut numbers {
+        *number = values.next()??;
+    }
+    values.next().is_none().then_some(numbers)
 }
 
 fn value(text: &[u8]) -> Option<u16> {
-    let digits = !text.is_empty() && text.iter().all(u8::is_ascii_digit);
     let leading_zero = text.len() > 1 && text[0] == b'0';
-    if !digits || leading_zero {
+    if text.is_empty() || leading_zero {
         return None;
     }
-    std::str::from_utf8(text).ok()?.parse().ok()
+    text.iter().try_fold(0u16, |value, byte| {
+        let digit = byte.is_ascii_digit().then(|| u16::from(byte - b'0'))?;
+        value.checked_mul(10)?.checked_add(digit)
+    })
 }
 
 /// Numbers with a space between, and byte 10.
