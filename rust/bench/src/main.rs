@@ -1,7 +1,7 @@
 //! Times the proved library against the model on one machine, with the same requests from the same tables.
 //! `sh bench/run` builds and runs it.
 //!
-//! usage: bench [REQUESTS] [SEED] [FILL]     REQUESTS for each trace, usually 4000; FILL: only empty, light, mixed or full, or the reports
+//! usage: bench [REQUESTS] [SEED] [FILL]     REQUESTS for each trace, usually 4000; FILL: only empty, light, mixed or full, the reports or the saved texts
 //!
 //! Each figure is the best of several runs, in nanoseconds for one request. Every run begins with the same
 //! tables and store; they are put back before the clock starts, and all buffers are used again, so that no
@@ -9,6 +9,7 @@
 //! full as they were: mostly reads and writes, some passes, recalls, takes and give backs, some refused.
 
 mod reports;
+mod saved;
 
 use dock::{raw, ANSWER, REQUEST};
 use image::random::Rng;
@@ -292,14 +293,14 @@ fn growth(length: usize, seed: u64) -> bool {
     !agree.contains(&false)
 }
 
-/// Tables as full as those of the traces, and the reports that are deepest and longest; false where reports differ.
-fn show_reports(fills: &[(&'static str, usize)], seed: u64) -> bool {
+/// Shows texts of tables as full as those of the traces, of the deepest loans and of the most grants; false where texts differ.
+fn show_texts(show: fn(&str, &State) -> bool, fills: &[(&'static str, usize)], seed: u64) -> bool {
     let mut agree = true;
     for &(fill, level) in fills {
-        agree &= reports::show(fill, &trace(fill, level, 0, seed).start);
+        agree &= show(fill, &trace(fill, level, 0, seed).start);
     }
-    agree &= reports::show("127 loans in a row", &reports::deepest());
-    agree & reports::show("256 taken grants", &reports::every_place())
+    agree &= show("127 loans in a row", &reports::deepest());
+    agree & show("256 taken grants", &reports::every_place())
 }
 
 fn main() -> ExitCode {
@@ -318,8 +319,10 @@ fn main() -> ExitCode {
     if only.is_none() {
         agree &= growth(length as usize, seed);
     }
-    if only.is_none_or(|name| name == "reports") {
-        agree &= show_reports(&fills, seed);
+    for (texts, show) in [("reports", reports::show as fn(&str, &State) -> bool), ("saved", saved::show)] {
+        if only.as_ref().is_none_or(|name| name == texts) {
+            agree &= show_texts(show, &fills, seed);
+        }
     }
     if !agree {
         return ExitCode::FAILURE;

@@ -30,7 +30,8 @@ pub fn show(what: &str, state: &State) -> bool {
     agree
 }
 
-fn repeat<T>(on: &mut T, call: impl Fn(&mut T) -> bool) -> f64 {
+/// Nanoseconds for one call, which must be accepted.
+pub fn repeat<T>(on: &mut T, call: impl Fn(&mut T) -> bool) -> f64 {
     best(TURNS, on, |_| (), |on| (0..TURNS).for_each(|_| assert!(call(std::hint::black_box(on)))))
 }
 
