@@ -1,0 +1,9 @@
+pub mod RowsOfText
+pub mod RowsInForm
+pub mod RowsFollow
+pub mod FoundAgain
+pub mod Restores
+pub mod SavedShort
+pub mod LoadingSound
+pub mod LoadsShort
+pub mod NumbersMustFit
