@@ -5,3 +5,4 @@ pub mod ReadingSteps
 pub mod WritingLaws
 pub mod WritingSteps
 pub mod Appending
+pub mod NextLine

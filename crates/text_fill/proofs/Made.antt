@@ -26,7 +26,7 @@ use Rattle.saved.specs.Row.{isLastRow, isTicketRow, isEntryRow, rowOk}
 use Rattle.saved.specs.Load.{above, hasRoom, mayFollow, lastOfProgram, ticketOfProgram, noRow, ticketFrom, entryFrom, programFrom, tablesWith, lastIn}
 use Rattle.saved.proofs.RowLaws.{Ranges, ranges, three-kinds, last-no-ticket, last-no-entry, ticket-no-entry, last-kind, last-is, is-last, ticket-kind, ticket-is, is-ticket}
 use Rattle.saved.proofs.TablesOfLines.{program-at, with-sized, with-last}
-use Rattle.text_fill.specs.Filling.{programOf, sortOf, mostOf, countBefore, ticketsBy, lastsBy, entriesBy, Followed, none, more, Filled}
+use Rattle.text_fill.specs.Filling.{programOf, sortOf, mostOf, countBefore, ticketsBy, lastsBy, entriesBy, bareTables, Followed, none, more, Filled}
 use Rattle.text_fill.proofs.Sorts.{sort-ticket, sort-entry, most-ticket, most-entry, count-last, count-ticket, count-entry, some-counted, room-by-sort}
 
 -- the lines in order
@@ -204,9 +204,6 @@ lasts-there p q a b (more {r} {before} o m earlier) = go (lasts-there p q a b ea
         elsewhere x y = contradiction (is-last p q r e x y) l
 
 -- ---- the tables
-abbrev pub bareTables : List Row → Tables
-bareTables rows = tablesWith (λ n. n) (lastIn rows) rows
-
 module _ {before : List Row} (ok : Followed before) where
   abbrev rows : List Row
   rows = rowsBy before

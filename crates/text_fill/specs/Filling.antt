@@ -7,11 +7,11 @@ use mathlib.Core.List.{List, [], _∷_}
 use lib.Dec.{eqb}
 use lib.ListN.{length, getD, set, replicate}
 use Rattle.lists.specs.Lists.{countOf}
-use Rattle.tables.specs.declared.{Ticket.Ticket, Entry.Entry}
+use Rattle.tables.specs.declared.{Ticket.Ticket, Entry.Entry, Tables.Tables}
 use Rattle.tables.specs.Names.{free, noEntry}
 use Rattle.saved.specs.declared.Row.{Row}
 use Rattle.saved.specs.Row.{isLastRow, isTicketRow, isEntryRow, rowOk, key}
-use Rattle.saved.specs.Load.{ticketFrom, entryFrom, mayFollow}
+use Rattle.saved.specs.Load.{mayFollow, ticketFrom, entryFrom, tablesWith, lastIn}
 use Rattle.image_write.specs.Shows.{Shows}
 
 -- ---- sorts of lines: each program's kind 0 lines, each program's tickets, the entries
@@ -52,6 +52,10 @@ lastsBy (r ∷ before) = cond (isLastRow r) (set (lastsBy before) (programOf r) 
 unfoldable pub entriesBy : List Row → List Entry
 entriesBy [] = replicate 256 noEntry
 entriesBy (r ∷ before) = cond (isEntryRow r) (set (entriesBy before) (countBefore before 64) (entryFrom r)) (entriesBy before)
+
+-- the tables of all lines, so far
+abbrev pub bareTables : List Row → Tables
+bareTables rows = tablesWith (λ n. n) (lastIn rows) rows
 
 -- ---- lines in form, each of which may follow those before it
 pub data Followed : List Row → Type 0 where

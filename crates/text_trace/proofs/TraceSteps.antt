@@ -14,7 +14,9 @@ use Rattle.image.specs.Image.{encode, decode}
 use Rattle.text.specs.Bytes.{lineEnd}
 use Rattle.text.specs.Reading.{lines}
 use Rattle.text.specs.Appending.{Appends, Countable}
-use Rattle.text.proofs.ReadingLaws.{upTo, lines-first, lines-none}
+use Rattle.text.proofs.ReadingLaws.{upTo}
+use Rattle.text.proofs.NextLine.{no-line, lineAt, line-first}
+use Rattle.text.proofs.NextLine as next-line
 use Rattle.text.proofs.Appending.{append-as, append-none, append-both}
 use Rattle.trace_texts.specs.Trace.{answerTo, leftByLine, answers, afterLines}
 use Rattle.lending.specs.Trace.{dockOf}
@@ -63,7 +65,7 @@ module _ (s₀ : State) (input : List ℕ) (start : ℕ) (before : List ℕ) (at
   -- behind the last line
   module _ (past : length input ≤ from) where
     no-lines : lines (drop from input) ≡ []
-    no-lines = ap lines (drop-of-length-le input past) ∙ lines-none
+    no-lines = no-line input from past
 
     pub ends : Appends (restOf s₀ input start 0) before out at total
     ends =
@@ -78,23 +80,15 @@ module _ (s₀ : State) (input : List ℕ) (start : ℕ) (before : List ℕ) (at
 
   -- one line more
   module _ (k : ℕ) (told : k ≡ upTo lineEnd (take (length input - from) (drop from input))) (more : from < length input) where
-    found : k ≡ upTo lineEnd (drop from input)
-    found = told ∙ ap (upTo lineEnd) (rest-part input from)
-
     -- the line that begins at `from`, as the code lends it, and where it ends
     abbrev pub lineHere : List ℕ
-    lineHere = take (from + k - from) (drop from input)
+    lineHere = lineAt input from k told more
 
     pub line-inside : from + k ≤ length input
-    line-inside = omega (arith, found, first-within (λ b. eqb b lineEnd) (drop from input), length-drop from input)
+    line-inside = next-line.line-inside input from k told more
 
     first-here : lines (drop from input) ≡ lineHere ∷ lines (drop (from + k + 1) input)
-    first-here =
-        let u = upTo lineEnd (drop from input) in
-        let e : from + suc u ≡ from + k + 1 = omega (arith, found) in
-        let n : u ≡ from + k - from = omega (arith, found) in
-        let tail : drop (suc u) (drop from input) ≡ drop (from + k + 1) input = drop-drop (suc u) from input ∙ ap (λ (m : ℕ). drop m input) e in
-        lines-first (drop from input) (omega (arith, length-drop from input)) ∙ λ i. take (n i) (drop from input) ∷ lines (tail i)
+    first-here = line-first input from k told more
 
     -- its answer, then those of the lines behind it, from the state that it leaves
     pub answers-here : restOf here input from done ≡ answerTo (done + 1) here lineHere ++ restOf (leftByLine here lineHere) input (from + k + 1) (done + 1)
