@@ -1,0 +1,62 @@
+use Prim.Native.Nat.{ℕ, _+_, _-_, _*_, _≤_, _<_}
+use mathlib.Core.Path.{_≡_, refl, sym, ap, subst, _∙_}
+use native.Mathlib.Omega.{arith}
+use borrow.Author.Needs.{needs}
+use lib.ListN.{length, getD, set}
+use Rattle.text_load.proofs.read_text.Statement.{statement}
+use Rattle.text_load.proofs.read_text.Tie as tie
+use Rattle.text_load.proofs.read_text.Reads as reads
+use Rattle.text_load.proofs.read_text.Lts as lts
+use Rattle.text.proofs.first_line.Reads as first-line-reads
+use Rattle.text_load.proofs.is_ended.Reads as is-ended-reads
+use Rattle.text_load.proofs.read_lines.Reads as read-lines-reads
+use Rattle.text_load.proofs.WholeText.{other-names, no-last-byte, read-under, start-inside}
+use Rattle.text.specs.Bytes.{bytes}
+use Rattle.saved.specs.Row.{columnNames}
+use Rattle.lists.proofs.Tests.{passed, failed}
+
+slice-aggregate-first-line : tie.Need-slice-aggregate-first-line
+slice-aggregate-first-line c = search needs
+
+first-line-requires : tie.Need-first-line-requires
+first-line-requires c κs = search needs
+
+returns : tie.Need-returns
+unfolding columnNames bytes
+returns c = other-names (c .before .before .before .before .before .before .args .text .now) _ (c .before .before .first-line .ensures) (failed refl (c .if1 .taken)) _
+
+is-ended-requires : tie.Need-is-ended-requires
+is-ended-requires c κs = search needs
+
+returns-2 : tie.Need-returns-2
+returns-2 c = no-last-byte (c .before .before .before .before .before .before .before .before .args .text .now) (failed (c .before .is-ended .ensures) (c .if2 .taken)) _
+
+add-read-lines : tie.Need-add-read-lines
+unfolding columnNames bytes
+add-read-lines c = omega (arith, start-inside (c .before .before .before .before .before .before .before .before .before .before .args .text .now) _ (c .before .before .before .before .before .before .first-line .ensures), c .before .before .before .before .before .before .before .before .before .before .good .1 .0 .1)
+
+read-lines-requires : tie.Need-read-lines-requires
+unfolding columnNames bytes
+read-lines-requires c κs = (c .before .before .before .before .before .before .before .before .before .before .pre, start-inside (c .before .before .before .before .before .before .before .before .before .before .args .text .now) _ (c .before .before .before .before .before .before .first-line .ensures))
+
+same-length : tie.Need-same-length
+same-length c = search needs
+
+returns-3 : tie.Need-returns-3
+unfolding columnNames bytes
+returns-3 c =
+    read-under (c .before .before .before .before .before .before .before .before .before .before .before .before .before .args .text .now) _ (c .before .before .before .before .before .before .before .before .before .first-line .ensures) (passed refl (c .before .before .before .before .before .before .before .if1 .left)) (passed (c .before .before .before .before .before .before .is-ended .ensures) (c .before .before .before .before .before .if2 .left)) _ _ (c .before .before .read-lines .ensures)
+
+pub read-text-spec : {M : Type 1} → statement M
+read-text-spec =
+    tie.close
+    (tie.spec
+    slice-aggregate-first-line
+    first-line-requires
+    returns
+    is-ended-requires
+    returns-2
+    add-read-lines
+    read-lines-requires
+    same-length
+    returns-3)
