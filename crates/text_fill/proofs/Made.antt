@@ -25,7 +25,7 @@ use Rattle.saved.specs.declared.Row.{Row}
 use Rattle.saved.specs.Row.{isLastRow, isTicketRow, isEntryRow, rowOk}
 use Rattle.saved.specs.Load.{above, hasRoom, mayFollow, lastOfProgram, ticketOfProgram, noRow, ticketFrom, entryFrom, programFrom, tablesWith, lastIn}
 use Rattle.saved.proofs.RowLaws.{Ranges, ranges, three-kinds, last-no-ticket, last-no-entry, ticket-no-entry, last-kind, last-is, is-last, ticket-kind, ticket-is, is-ticket}
-use Rattle.saved.proofs.TablesOfLines.{program-at, with-sized, with-last}
+use Rattle.saved.proofs.TablesOfLines.{with-tickets, with-sized, with-last}
 use Rattle.text_fill.specs.Filling.{programOf, sortOf, mostOf, countBefore, ticketsBy, lastsBy, entriesBy, bareTables, Followed, none, more, Filled}
 use Rattle.text_fill.proofs.Sorts.{sort-ticket, sort-entry, most-ticket, most-entry, count-last, count-ticket, count-entry, some-counted, room-by-sort}
 
@@ -208,10 +208,6 @@ module _ {before : List Row} (ok : Followed before) where
   abbrev rows : List Row
   rows = rowsBy before
 
-  tickets-of : (p q : ℕ) → p < 4 → q < 8 → ticketsOf (bareTables rows) p q ≡ filled 8 free (ticketsOfLines p q rows)
-  unfolding programFrom
-  tickets-of p q a b = ap (λ (x : _). x .tickets) (program-at (λ n. n) (lastIn rows) rows p q a b)
-
   laid : Flattened (bareTables rows) (ticketsBy before) (lastsBy before)
   laid = record {
     long = tickets-long before;
@@ -221,7 +217,7 @@ module _ {before : List Row} (ok : Followed before) where
         let i : p % 8 < 8 = omega arith in
         let e : p ≡ 8 * (8 * (p / 64) + p / 8 % 8) + p % 8 = omega arith in
         ap (λ (j : ℕ). getD (ticketsBy before) j free) e ∙ tickets-there (p / 64) (p / 8 % 8) a b ok (p % 8) i
-        ∙ sym (ap (λ (l : List Ticket). getD l (p % 8) free) (tickets-of (p / 64) (p / 8 % 8) a b)
+        ∙ sym (ap (λ (l : List Ticket). getD l (p % 8) free) (with-tickets (λ n. n) (lastIn rows) rows (p / 64) (p / 8 % 8) a b)
         ∙ filled-at 8 free (ticketsOfLines (p / 64) (p / 8 % 8) rows) (p % 8) i);
     lastsLong = lasts-long before;
     last = λ p q a b. lasts-there p q a b ok ∙ sym (with-last (λ n. n) (lastIn rows) rows p q a b);

@@ -10,7 +10,9 @@ ghost use Rattle.text.specs.Reading.{lines};
 ghost use Rattle.saved.specs.Save.{programs};
 ghost use Rattle.saved.specs.Load.{isEnded};
 ghost use Rattle.text_fill.specs.Filling.{sorts};
+ghost use Rattle.lending.specs.Saved.{LoadsLent};
 ghost use Rattle.text_load.specs.Reading.{ReadsLines, ReadsText};
+use image::IMAGE;
 use text_fill::SORTS;
 
 const LINE_END: u8 = 10;
@@ -85,4 +87,24 @@ fn read_text(image: &mut [u8], text: &[u8]) -> bool
         return false;
     }
     read_lines(image, text, first.end + 1)
+}
+
+// The tables of a text into lent tables: 13, and nothing changes; 18 or 14, and they are empty, which is zeros; or 0.
+pub fn load_lent(tables: &mut [u8], text: &[u8]) -> u16
+    ensures { λ r. ⌜ LoadsLent (now (tables .entry)) (now (text .entry)) r (now (tables .exit)) ⌝ }
+{
+    if tables.len() != IMAGE {
+        return 13;
+    }
+    op_sheets::clear(tables);
+    if !read_text(tables, text) {
+        op_sheets::clear(tables);
+        return 18;
+    }
+    text_docks::put_docks(tables);
+    if !order::image_in_order(tables) {
+        op_sheets::clear(tables);
+        return 14;
+    }
+    0
 }
