@@ -1,0 +1,5 @@
+mod RowLaws
+mod Lines
+mod Going
+mod Chosen
+mod Rounds
