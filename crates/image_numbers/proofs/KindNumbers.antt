@@ -2,16 +2,13 @@
 use Prim.Native.Nat.{ℕ, _≤_, _<_}
 use native.Mathlib.Omega.{arith}
 use mathlib.Core.Path.{_≡_, refl, sym, ap, _∙_}
-use mathlib.Core.Bool.{true, false}
 use mathlib.Core.List.{List}
 use lib.Dec.{leb, eqb}
 use lib.ListN.{getD}
-use borrow.Author.Tests.{leb-true, leb-false, eqb-true, eqb-false, eq-eqb, ne-eqb}
+use borrow.Author.Tests.{leb-true, leb-false, eqb-true, eq-eqb, ne-eqb}
 use Rattle.lists.proofs.Tests.{Case, pass, fail, case}
 use Rattle.lists.proofs.Below.{below-at}
-use Rattle.tables.specs.declared.{Kind.Kind, Ticket.Ticket}
-use Rattle.tables.specs.declared.Kind.the-variants.{Free, Taken, Received, Child, Recall}
-use Rattle.tables.specs.Kinds.{isLive}
+use Rattle.tables.specs.declared.Ticket.{Ticket}
 use Rattle.tables.specs.Names.{free}
 use Rattle.image.specs.Numbers.{numberAt}
 use Rattle.image.specs.Image.{kindNumber, kindOf, ticketStart}
@@ -26,8 +23,12 @@ kind-again n h = eqb-true _ n (below-at 5 (λ m. eqb (kindNumber (kindOf m)) m) 
 no-kind : (n : ℕ) → 4 < n → kindNumber (kindOf n) ≡ 0
 unfolding kindOf
 no-kind n h =
-    rw (ne-eqb n 1 (λ e. omega (arith, e, h)), ne-eqb n 2 (λ e. omega (arith, e, h)), ne-eqb n 3 (λ e. omega (arith, e, h)), ne-eqb n 4 (λ e. omega (arith, e, h)))
-    refl
+    rw (
+      ne-eqb n 1 (λ e. omega (arith, e, h)),
+      ne-eqb n 2 (λ e. omega (arith, e, h)),
+      ne-eqb n 3 (λ e. omega (arith, e, h)),
+      ne-eqb n 4 (λ e. omega (arith, e, h)),
+    ) refl
 
 module _ (image : List ℕ) (place kind : ℕ) (low : place < 256) (some : 1 ≤ kind) (most : kind ≤ 4) where
   abbrev said : ℕ
@@ -50,14 +51,3 @@ module _ (image : List ℕ) (place kind : ℕ) (low : place < 256) (some : 1 ≤
   pub this-kind : said ≡ kind → here .number ≡ numberIf (λ k. eqb (kindNumber (k .kind)) kind) here
   unfolding numberIf
   this-kind e = rw (eq-eqb (kindNumber (here .kind)) kind (kind-told ∙ kind-again said (omega (arith, e, most)) ∙ e)) refl
-
--- a ticket of a kind that has a number is live
-pub kind-live : (kind : ℕ) → 1 ≤ kind → (k : Ticket) → eqb (kindNumber (k .kind)) kind ≡ true → isLive (k .kind) ≡ true
-kind-live kind some k e = go (k .kind) (eqb-true (kindNumber (k .kind)) kind e)
-  where
-    go : (it : Kind) → kindNumber it ≡ kind → isLive it ≡ true
-    go Free z = absurd (omega (arith, z, some))
-    go Taken z = refl
-    go Received z = refl
-    go Child z = refl
-    go Recall z = refl

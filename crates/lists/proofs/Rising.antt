@@ -1,17 +1,19 @@
 -- Lists by strictly rising keys. Two of them with the same members are equal, so that whatever writes the elements in their order has written
 -- the sorted list; and sorting keeps members and counts. No permutation is ever spoken of.
-use Prim.Native.Nat.{ℕ, suc, _<_}
+use Prim.Native.Nat.{ℕ, zero, suc, _+_, _≤_, _<_}
 use native.Mathlib.Omega.{arith}
 use mathlib.Core.Path.{_≡_, refl, sym, ap, _∙_, subst}
+use mathlib.Core.Logic.{⊎-elim}
 use mathlib.Core.Bool.{Bool, true, false, not, _&&_, cond}
-use mathlib.Core.List.{List, [], _∷_, map}
+use mathlib.Core.List.{List, [], _∷_, _++_, map}
 use lib.Dec.{leb}
 use borrow.Author.Tests.{leb-true, leb-false, not-true}
 use Rattle.lists.specs.Tests.{implies}
 use Rattle.lists.specs.Lists.{some, noTwo, keep, countOf, putInto, sortedBy}
+use Rattle.lists.specs.Parts.{tabulate, joined}
 use Rattle.lists.specs.Members.{In, first, later, Once, none, more}
 use Rattle.lists.proofs.Tests.{Case, pass, fail, case, contradiction, and-l, and-r, and-intro, implies-elim}
-use Rattle.lists.proofs.MemberLaws.{in-none, some-in, kept, mapped, in-map}
+use Rattle.lists.proofs.MemberLaws.{in-none, in-either, some-in, kept, tabulated, from-joined, mapped, in-map}
 
 module _ {A : Type 0} (key : A → ℕ) where
   -- each key is below all later ones
@@ -171,6 +173,46 @@ module _ {A : Type 0} (key : A → ℕ) where
       go : Rising key (keep test xs) → Case (test x) → Rising key (cond (test x) (x ∷ keep test xs) (keep test xs))
       go s (pass t) = rw t (rises (λ y m. h y (kept test y xs m .member)) s)
       go s (fail t) = rw t s
+
+-- ---- parts one behind the other, an element for each number, rows by what they are rows of
+module _ {A : Type 0} (key : A → ℕ) where
+  rising-append : (l m : List A) → Rising key l → Rising key m → ((x y : A) → In x l → In y m → key x < key y) → Rising key (l ++ m)
+  rising-append [] m p q h = q
+  rising-append (x ∷ l) m p q h =
+      rises (λ y i. ⊎-elim (below key p y) (h x y (first refl)) (in-either y l m i)) (rising-append l m (rest key p) q (λ a b i j. h a b (later i) j))
+
+  -- the keys of part m lie from `low m` on and below `low (m + 1)`
+  pub rising-joined : (low : ℕ → ℕ) → ((i j : ℕ) → i ≤ j → low i ≤ low j) → (n : ℕ) (part : ℕ → List A) → ((m : ℕ) → m < n → Rising key (part m))
+      → ((m : ℕ) (x : A) → m < n → In x (part m) → (low m ≤ key x) × (key x < low (m + 1))) → Rising key (joined n part)
+  unfolding joined
+  rising-joined low up zero part each within = empty
+  rising-joined low up (suc n) part each within =
+      rising-append (joined n part) (part n)
+      (rising-joined low up n part (λ m h. each m (omega (arith, h))) (λ m x h. within m x (omega (arith, h)))) (each n (omega arith)) apart
+    where
+      apart : (x y : A) → In x (joined n part) → In y (part n) → key x < key y
+      apart x y i j =
+          let k = from-joined n part x i in
+          omega (
+            arith,
+            within (k .place) x (omega (arith, k .low)) (k .member) .1,
+            up (k .place + 1) n (omega (arith, k .low)),
+            within n y (omega arith) j .0,
+          )
+
+  pub rising-tabulate : (f : ℕ → A) → ((i j : ℕ) → i < j → key (f i) < key (f j)) → (n : ℕ) → Rising key (tabulate n f)
+  unfolding tabulate
+  rising-tabulate f up zero = empty
+  rising-tabulate f up (suc n) =
+      rises (λ y i. let t = tabulated n (λ j. f (suc j)) y i in subst (λ (z : A). key (f 0) < key z) (sym (t .is)) (up 0 (suc (t .place)) (omega arith)))
+      (rising-tabulate (λ j. f (suc j)) (λ i j h. up (suc i) (suc j) (omega (arith, h))) n)
+
+pub rising-map : {A B : Type 0} (f : A → ℕ) (g : B → ℕ) (row : A → B) (l : List A)
+    → ((x y : A) → In x l → In y l → f x < f y → g (row x) < g (row y)) → Rising f l → Rising g (map row l)
+rising-map f g row [] up r = empty
+rising-map {A} {B} f g row (x ∷ xs) up (rises low r) =
+    rises (λ z i. let m = mapped row z xs i in subst (λ (y : B). g (row x) < g y) (sym (m .is)) (up x (m .from) (first refl) (later (m .member)) (low (m .from) (m .member))))
+    (rising-map f g row xs (λ a b i j. up a b (later i) (later j)) r)
 
 -- the rows of the elements that count, no two of which are alike, have each its own key
 module _ {A B : Type 0} (counts : A → Bool) (alike : A → A → Bool) (row : A → B) (order : B → ℕ) where

@@ -3,17 +3,14 @@ use Prim.Native.Nat.{ℕ, _/_, _%_, _≤_, _<_}
 use mathlib.Core.Path.{_≡_, sym, ap, _∙_}
 use mathlib.Core.Bool.{true}
 use mathlib.Core.List.{List}
-use Rattle.lists.proofs.Tests.{and-l}
 use Rattle.tables.specs.declared.{Name.Name, Ticket.Ticket, Tables.Tables}
-use Rattle.tables.specs.Kinds.{isLive, isHead}
 use Rattle.tables.specs.Lookup.{lookup, placeOf, entryOf}
-use Rattle.tables.proofs.KindLaws.{live-head}
 use Rattle.image.specs.Image.{decode}
 use Rattle.image_places.proofs.Kept.{kept-pad, kept-program}
 use Rattle.image_find.proofs.Laws.{decoded-sized}
-use Rattle.image_numbers.proofs.KindNumbers.{kind-live}
 use Rattle.saved.specs.Save.{ticketRow, entryRow}
 use Rattle.saved_blocks.specs.Blocks.{ofKind, hasEntry, ticketLine, entryLine}
+use Rattle.saved_blocks.proofs.BlockLaws.{kind-alive, entry-head, entry-alive}
 use Rattle.text_loans.specs.Walk.{Ordered, ticketIn}
 use Rattle.text_loans.proofs.Places.{ticket-there}
 use Rattle.text_blocks.specs.Rows.{ticketRowAt, entryRowAt}
@@ -25,34 +22,24 @@ module _ (image : List ℕ) where
 
   -- ---- a ticket of a kind
   module _ (kind : ℕ) (some : 1 ≤ kind) where
-    kind-alive : (k : Ticket) → ofKind kind k ≡ true → isLive (k .kind) ≡ true
-    kind-alive k e = kind-live kind some k e
-
     ticket-here : (n : Name) → ofKind kind (lookup t n) ≡ true → ticketLine t n ≡ ticketRowAt image (placeOf t n)
     ticket-here n e =
-        let l = kind-alive (lookup t n) e in
+        let l = kind-alive kind some (lookup t n) e in
         let on : n .pad ≡ placeOf t n / 64 = sym (kept-pad t (decoded-sized image) n l) in
         let of : n .program ≡ placeOf t n / 8 % 8 = sym (kept-program t (decoded-sized image) n l) in
         let there : lookup t n ≡ ticketIn image (placeOf t n) = sym (ticket-there image n l) in
         λ i. ticketRow (on i) (of i) (there i)
 
     pub tickets : Ordered image → (program : ℕ) → program < 32 → Choice image (ofKind kind) (ticketLine t) (ticketRowAt image) program
-    tickets o program low = record { tables = o; low = low; alive = kind-alive; here = ticket-here }
+    tickets o program low = record { tables = o; low = low; alive = kind-alive kind some; here = ticket-here }
 
   -- ---- a grant that has its entry
-  grant-head : (k : Ticket) → hasEntry t k ≡ true → isHead (k .kind) ≡ true
-  unfolding hasEntry
-  grant-head k e = and-l (isHead (k .kind)) _ e
-
-  entry-alive : (k : Ticket) → hasEntry t k ≡ true → isLive (k .kind) ≡ true
-  entry-alive k e = live-head (k .kind) (grant-head k e)
-
   entry-here : Ordered image → (n : Name) → hasEntry t (lookup t n) ≡ true → entryLine t n ≡ entryRowAt image (placeOf t n)
   entry-here o n e =
-      let dock : lookup t n .dock ≡ n = o .order .rules .dock n (grant-head (lookup t n) e) in
+      let dock : lookup t n .dock ≡ n = o .order .rules .dock n (entry-head t (lookup t n) e) in
       let there : ticketIn image (placeOf t n) .dock ≡ lookup t n .dock
-      = ap (λ (k : Ticket). k .dock) (ticket-there image n (entry-alive (lookup t n) e)) in
+      = ap (λ (k : Ticket). k .dock) (ticket-there image n (entry-alive t (lookup t n) e)) in
       ap (λ (m : Name). entryRow (entryOf t m)) (sym (there ∙ dock))
 
   pub entries : Ordered image → (program : ℕ) → program < 32 → Choice image (hasEntry t) (entryLine t) (entryRowAt image) program
-  entries o program low = record { tables = o; low = low; alive = entry-alive; here = entry-here o }
+  entries o program low = record { tables = o; low = low; alive = entry-alive t; here = entry-here o }

@@ -89,7 +89,8 @@ loop-again-2 c =
     let c6 = c3 .before .before .before in
     let image = c6 .args .image .now in
     let i = c3 .loop .i in
-    notes-skip image _ i (c3 .loop .inv) (c .before .before .loop-test .taken) (not-live image i _ (c .before .before .loop-test .taken) (c .before .live-at .ensures) (c .if1 .left))
+    let low = c .before .before .loop-test .taken in
+    notes-skip image _ i (c3 .loop .inv) low (not-live image i _ low (c .before .live-at .ensures) (c .if1 .left))
 
 same-length : tie.Need-same-length Inv-loop μ-loop
 same-length c = search needs
