@@ -1,0 +1,2 @@
+mod WholeText
+mod LentText
