@@ -1,7 +1,8 @@
--- The calls that the claim follows are those of the routines' contracts: what `EmptiesImage`, `Steps`, `Leaves` and `TracesLent` say of the
--- buffers that come back is what `result`, `left` and `made` take. (The check and the order test hand back `result` by name.)
+-- The calls that the claims follow are those of the routines' contracts: what `EmptiesImage`, `Steps`, `Leaves`, `TracesLent` and `LoadsLent`
+-- say of the buffers that come back is what `result`, `left` and `made` take. (The check and the order test hand back `result` by name, and
+-- what only reads the dock leaves it.)
 use Prim.Native.Nat.{ℕ, _*_}
-use mathlib.Core.Path.{_≡_, sym, ap, _∙_}
+use mathlib.Core.Path.{_≡_, refl, sym, ap, _∙_}
 use mathlib.Core.List.{List}
 use lib.ListN.{getD, take, drop}
 use Rattle.machine.specs.State.{sheetAt}
@@ -10,8 +11,9 @@ use Rattle.lending.specs.Numbers.{requestAt}
 use Rattle.lending.specs.Batch.{Left, batch, Leaves}
 use Rattle.lending.specs.Host.{EmptiesImage, stepRefusal, leftBy, stepImage, Steps}
 use Rattle.lending.specs.Trace.{TracesLent}
+use Rattle.lending.specs.Saved.{SavesLent, LoadsLent}
 use Rattle.lending.proofs.Refusals.{step-served}
-use Rattle.host_isolation.specs.Calls.{Dock, Call, emptying, stepping, serving, tracing, lent, lentTrace, result, left, inStep, inBatch}
+use Rattle.host_isolation.specs.Calls.{Dock, Call, emptying, stepping, serving, tracing, saving, loading, lent, lentTrace, lentSave, result, left, inStep, inBatch}
 
 -- what came back, and the dock that was left
 pub record Follows (d : Dock) (c : Call) (result′ : ℕ) (image store : List ℕ) : Type 0 where
@@ -27,6 +29,16 @@ module _ (d : Dock) (result′ : ℕ) (tables store : List ℕ) where
       → Follows d (tracing input output) result′ tables store
   unfolding result left
   dock-trace input output output′ size h = record { result = h .result; dock = λ i. record { image = h .tables i; store = h .store i } }
+
+  -- handed the tables alone, so that the store stays
+  pub dock-load : (text : List ℕ) → LoadsLent (d .image) text result′ tables → Follows d (loading text) result′ tables (d .store)
+  unfolding result left
+  dock-load text h = record { result = h .result; dock = λ i. record { image = h .tables i; store = d .store } }
+
+  pub dock-save : (output output′ : List ℕ) (size : ℕ) → SavesLent (lentSave d output) result′ output′ size
+      → Follows d (saving output) result′ (d .image) (d .store)
+  unfolding result left
+  dock-save output output′ size h = record { result = h .result; dock = refl }
 
   module _ (sheet request answer sheet′ answer′ : List ℕ) where
     pub dock-step : Steps (lent d sheet request answer) result′ tables store sheet′ answer′

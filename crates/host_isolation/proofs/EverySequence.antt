@@ -23,7 +23,7 @@ use Rattle.isolation.proofs.TwoSequences.{head-both, tail-both}
 use Rattle.image.specs.Image.{encode}
 use Rattle.image.proofs.RoundTrip.{encode-is-image, image-whole}
 use Rattle.lending.specs.Host.{stepRefusal, leftBy}
-use Rattle.host_isolation.specs.Calls.{Dock, WholeDock, Call, emptying, stepping, lent, result, left, Exchange, made, empties, exchanges, noneCrosses, ofGroup, Given, Agree, IsolatedForHosts}
+use Rattle.host_isolation.specs.Calls.{Dock, WholeDock, Call, emptying, stepping, lent, result, left, Exchange, made, loads, begins, exchanges, noneCrosses, ofGroup, Given, Agree, IsolatedForHosts}
 use Rattle.host_isolation.proofs.Traced.{seenBy, traced, asSeen, edge-seen, group-seen}
 use Rattle.host_isolation.proofs.Stands.{Stands, emptied-stands}
 use Rattle.host_isolation.proofs.OneCall.{theSent, step-result, step-same, step-left}
@@ -41,10 +41,15 @@ pub callsFor : List Sent → List Call
 callsFor [] = []
 callsFor (i ∷ is) = callFor i ∷ callsFor is
 
-none-empties : (is : List Sent) → some empties (callsFor is) ≡ false
+none-begins : (is : List Sent) → some begins (callsFor is) ≡ false
 unfolding some callsFor
-none-empties [] = refl
-none-empties (i ∷ is) = none-empties is
+none-begins [] = refl
+none-begins (i ∷ is) = none-begins is
+
+none-loads : (is : List Sent) → some loads (callsFor is) ≡ false
+unfolding some callsFor
+none-loads [] = refl
+none-loads (i ∷ is) = none-loads is
 
 module _ (d : Dock) (s : State) (h : Stands d s) (i : Sent) where
   is-served : eqb (stepRefusal (lent d (i .sheet) (numbersOf (i .request)) (replicate answerWidth 0))) 0 ≡ true
@@ -74,12 +79,12 @@ all-made : (is : List Sent) (d : Dock) (s : State) → Stands d s → exchanges 
 unfolding exchanges callsFor traced
 all-made [] d s h = refl
 all-made (i ∷ is) d s h =
-    rw (none-empties is)
+    rw (none-begins is)
     (λ j. one-made d s h i j ++ all-made is (left d (callFor i)) (step (enter s i) (i .request) .state) (one-left d s h i) j)
 
 pub sequence-made : (d : Dock) → WholeDock d → (is : List Sent) → exchanges d (emptying ∷ callsFor is) ≡ traced emptyDock is
 unfolding exchanges made
-sequence-made d w is = rw (none-empties is) (all-made is (left d emptying) emptyDock (emptied-stands d w))
+sequence-made d w is = rw (none-begins is) (all-made is (left d emptying) emptyDock (emptied-stands d w))
 
 -- ---- so demand 3 follows from the claim for hosts
 given-one : (x y : machine.Exchange) → claim.Given x y → Given (asSeen x) (asSeen y)
@@ -123,6 +128,6 @@ hosts-are-enough hosts g is js a b given =
     ap (ofGroup g) theirs ∙ group-seen g emptyDock js in
     agree-called (groupExchanges g emptyDock is) (groupExchanges g emptyDock js)
     (rw (mine, yours)
-    at (hosts g anyDock anyDock (callsFor is) (callsFor js)
+    at (hosts g anyDock anyDock (callsFor is) (callsFor js) (none-loads is) (none-loads js)
     (ap (noneCrosses g) ours ∙ edge-seen g emptyDock is ∙ a) (ap (noneCrosses g) theirs ∙ edge-seen g emptyDock js ∙ b)
     (rw (mine, yours) (given-called (groupExchanges g emptyDock is) (groupExchanges g emptyDock js) given))))

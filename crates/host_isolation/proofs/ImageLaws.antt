@@ -29,9 +29,13 @@ use Rattle.lending.specs.Sequence.{Start, met, outcomeAt}
 use Rattle.lending.specs.Batch.{Buffers, Left, batchRefusal, startOf, allServed, untouched, batch}
 use Rattle.lending.specs.Host.{emptyImage, stepRefusal, stepOutcome, leftBy, stepImage}
 use Rattle.lending.specs.Trace.{TraceBuffers, dockOf, stateAfter, traceRefusal, traceLent}
+use Rattle.saved.specs.Load.{loadRefusal, load}
+use Rattle.restoring.proofs.LoadingSound.{loading-is-sound}
+use Rattle.lending.specs.Saved.{LoadLeft, loadLent}
 use Rattle.lending.proofs.Refusals.{tables-image, step-served, step-refused, step-tables}
 use Rattle.lending.proofs.Kept.{image-kept}
-use Rattle.host_isolation.specs.Images.{AllBytes, AsBefore, AfterStep, AfterServe, AfterTrace, ImageLaws}
+use Rattle.host_isolation.specs.Images.{AllBytes, AsBefore, AfterStep, AfterServe, AfterTrace, AfterLoad, ImageLaws}
+use Rattle.host_isolation.proofs.Stands.{is-loaded}
 
 -- ---- dock_step
 module _ (b : Buffers) where
@@ -173,6 +177,27 @@ module _ (tables store : List ℕ) where
   unfolding emptyImage
   empty-other x = rw (ne-eqb (length tables) imageSize x) refl
 
+-- ---- dock_load
+load-empty : (text : List ℕ) → (load text .result ≡ 0 → ⊥) → load text .tables ≡ emptyTables
+unfolding load
+load-empty text x = rw (ne-eqb (loadRefusal text) 0 x) refl
+
+module _ (tables text : List ℕ) where
+  load-read : length tables ≡ imageSize → decode (loadLent tables text .tables) ≡ load text .tables
+  load-read long =
+      ap (λ (l : LoadLeft). decode (l .tables)) (is-loaded tables text long) ∙ decode-encode (load text .tables) (loading-is-sound text .sized)
+
+  load-other : (length tables ≡ imageSize → ⊥) → loadLent tables text .tables ≡ tables
+  unfolding loadLent
+  load-other x = rw (ne-eqb (length tables) imageSize x) refl
+
+  after-load : AfterLoad tables text
+  after-load = record {
+    read = load-read;
+    refused = λ long x. load-read long ∙ load-empty text (λ z. x ((λ i. is-loaded tables text long i .result) ∙ z));
+    other = load-other;
+  }
+
 pub image-laws : ImageLaws
 image-laws = record {
   step = after-step;
@@ -183,4 +208,5 @@ image-laws = record {
     kept = λ x. empty-kept tables store x (case (eqb (length tables) imageSize)) (case (eqb (length store) 16384));
     other = empty-other tables store;
   };
+  load = after-load;
 }

@@ -1,5 +1,5 @@
 -- One call on a dock that stands for a state: the requests that it makes are a sequence from that state, and the dock that it leaves stands
--- for the state that the sequence leaves. For emptying the state is the emptied one.
+-- for the state that the sequence leaves. For emptying the state is the emptied one, for loading that of the text.
 use Prim.Native.Nat.{ℕ, _≤_}
 use mathlib.Core.Path.{_≡_, ap, _∙_}
 use mathlib.Core.Bool.{Bool, true, false, cond}
@@ -16,12 +16,23 @@ use Rattle.preservation.proofs.StepKeepsOrder.{step-keeps, result-at-most-12}
 use Rattle.lending.specs.Batch.{Buffers, untouched}
 use Rattle.lending.specs.Host.{stepRefusal, stepOutcome, leftBy, stepImage}
 use Rattle.lending.proofs.Refusals.{step-served, step-refused, step-sheet}
-use Rattle.host_isolation.specs.Calls.{Dock, Call, stepping, lent, dockIn, left, Exchange, inStep, made}
+use Rattle.saved.specs.Claims.{withLoaded}
+use Rattle.host_isolation.specs.Calls.{Dock, Call, emptying, stepping, serving, tracing, reporting, saving, loading, checking, testing}
+use Rattle.host_isolation.specs.Calls.{lent, dockIn, left, Exchange, inStep, made}
 use Rattle.host_isolation.proofs.Traced.{seenBy, traced}
 use Rattle.host_isolation.proofs.Stands.{Stands, decoded}
 
-abbrev pub startFor : Bool → State → State
-startFor b s = cond b emptyDock s
+-- the state that a call's requests go out from: where a sequence begins, or what it met
+abbrev pub startOf : Call → State → State
+startOf emptying s = emptyDock
+startOf (stepping sheet request answer) s = s
+startOf (serving sheets requests answers) s = s
+startOf (tracing input output) s = s
+startOf (reporting scratch output) s = s
+startOf (saving output) s = s
+startOf (loading text) s = withLoaded text (s .store) []
+startOf (checking pad program number sheet right) s = s
+startOf testing s = s
 
 pub record Makes (d : Dock) (c : Call) (s : State) : Type 0 where
   pub sent : List Sent

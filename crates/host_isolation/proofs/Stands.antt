@@ -1,11 +1,11 @@
 -- A host's dock that stands for a state in order: its image is that of the tables, and is read as them. Such a dock is whole and passes the
--- order test. An emptied dock stands for the machine's, and one
--- that passes the order test for what its bytes say.
+-- order test. An emptied dock stands for the machine's, one that loaded a text for the text's tables beside its store, and one that passes
+-- the order test for what its bytes say.
 use Prim.Native.Nat.{ℕ, _<_}
 use native.Mathlib.Omega.{arith}
 use mathlib.Core.Path.{_≡_, refl, sym, ap, _∙_}
 use mathlib.Core.Bool.{true}
-use mathlib.Core.List.{List}
+use mathlib.Core.List.{List, []}
 use lib.ListN.{length, getD}
 use borrow.Author.Tests.{eq-eqb}
 use Rattle.lists.proofs.Tests.{Case, pass, fail, case, and-l, and-r, and-intro}
@@ -25,7 +25,11 @@ use Rattle.image_find.proofs.Laws.{decoded-sized}
 use Rattle.lending.specs.Batch.{tablesOk}
 use Rattle.lending.specs.Host.{EmptiedImage, emptyImage, orderOf}
 use Rattle.lending.specs.Trace.{dockOf}
-use Rattle.host_isolation.specs.Calls.{Dock, WholeDock, emptying, left}
+use Rattle.lending.specs.Saved.{LoadLeft, loadLent}
+use Rattle.saved.specs.Load.{load}
+use Rattle.saved.specs.Claims.{withLoaded}
+use Rattle.restoring.proofs.LoadingSound.{loading-is-sound}
+use Rattle.host_isolation.specs.Calls.{Dock, WholeDock, emptying, loading, left}
 
 pub record Stands (d : Dock) (s : State) : Type 0 where
   pub image : d .image ≡ encode (s .tables)
@@ -66,6 +70,25 @@ unfolding left emptyDock
 emptied-stands d w =
     let e = is-emptied (d .image) (d .store) (w .image) (w .store) in
     record { image = λ i. e i .tables; store = λ i. e i .store; ok = empty-dock-ok }
+
+-- ---- loading
+abbrev loadOf : List ℕ → LoadLeft
+loadOf text = record { result = load text .result; tables = encode (load text .tables) }
+
+pub is-loaded : (image text : List ℕ) → length image ≡ imageSize → loadLent image text ≡ loadOf text
+unfolding loadLent
+is-loaded image text a = rw (eq-eqb (length image) imageSize a)
+
+pub loaded-ok : (text store : List ℕ) → length store ≡ 16384 → DockOk (withLoaded text store [])
+loaded-ok text store long =
+    let sound = loading-is-sound text in
+    record { tables = test-means-order (load text .tables) (sound .sized) (sound .order); store = long }
+
+pub loaded-stands : (d : Dock) → WholeDock d → (text store : List ℕ) → d .store ≡ store → Stands (left d (loading text)) (withLoaded text store [])
+unfolding left
+loaded-stands d w text store same =
+    let e = is-loaded (d .image) text (w .image) in
+    record { image = λ i. e i .tables; store = same; ok = loaded-ok text store (ap length (sym same) ∙ w .store) }
 
 -- ---- a dock whose order test answers 0 stands for what its bytes say
 passed-order : (image : List ℕ) → Case (tablesOk image) → orderOf image ≡ 0 → length image ≡ imageSize → tablesOk image ≡ true

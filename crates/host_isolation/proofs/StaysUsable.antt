@@ -1,5 +1,5 @@
 -- A dock stays usable, whatever was called: 14 never comes, and a call whose own buffers have their lengths is served.
-use Prim.Native.Nat.{ℕ, _*_, _/_, _≤_}
+use Prim.Native.Nat.{ℕ, _+_, _*_, _/_, _≤_, _<_}
 use native.Mathlib.Omega.{arith}
 use mathlib.Core.Path.{_≡_, refl, sym, ap, _∙_}
 use mathlib.Core.Bool.{Bool, true, false, not, _&&_}
@@ -8,7 +8,7 @@ use lib.Dec.{leb, eqb}
 use lib.ListN.{length, getD}
 use borrow.Author.Tests.{eq-eqb, le-leb}
 use Rattle.lists.specs.Lists.{all}
-use Rattle.lists.proofs.Tests.{Case, pass, fail, case, and-intro}
+use Rattle.lists.proofs.Tests.{Case, pass, fail, case, contradiction, and-intro}
 use Rattle.tables.specs.Names.{nameOf}
 use Rattle.machine.specs.State.{State}
 use Rattle.machine.specs.Refusal.{_when_else_}
@@ -24,7 +24,9 @@ use Rattle.preservation.proofs.TestMeansOrder.{test-means-order}
 use Rattle.text_marks.specs.Marks.{markBytes}
 use Rattle.report.specs.Report.{reportRoom, report}
 use Rattle.report.proofs.Short.{report-short}
-use Rattle.image_find.proofs.Laws.{decoded-sized}
+use Rattle.image_read.specs.Places.{lastStart}
+use Rattle.image_read.proofs.Places.{last-here}
+use Rattle.image_find.proofs.Laws.{flattened, decoded-sized}
 use Rattle.lending.specs.Report.{reportRefusal, reportLent}
 use Rattle.image.specs.Layout.{imageSize}
 use Rattle.image.specs.Image.{decode}
@@ -33,10 +35,17 @@ use Rattle.trace_texts.proofs.AnswersLaws.{trace-short-from}
 use Rattle.lending.specs.Batch.{lengthsFit, batchRefusal, allServed, untouched, batch}
 use Rattle.lending.specs.Host.{stepRefusal, stepImage, checkImage}
 use Rattle.lending.specs.Trace.{dockOf, traceOf, traceRefusal, traceLent}
-use Rattle.host_isolation.specs.Calls.{Dock, Call, emptying, stepping, serving, tracing, reporting, checking, testing, lent, lentTrace, lentReport, result, left, leftByAll, Exchange, made, empties, Usable, UsableForHosts, UsableInOrder}
+use Rattle.saved.specs.Save.{savedRoom, saved}
+use Rattle.saved.specs.Load.{load}
+use Rattle.saved.specs.Claims.{NumbersFit, withLoaded}
+use Rattle.restoring.proofs.SavedShort.{saved-short}
+use Rattle.lending.specs.Saved.{saveRefusal, saveLent, loadLent}
+use Rattle.host_isolation.specs.Calls.{Dock, WholeDock, Call, emptying, stepping, serving, tracing, reporting, saving, loading, checking, testing}
+use Rattle.host_isolation.specs.Calls.{lent, lentTrace, lentReport, lentSave, result, left, leftByAll, Exchange, made, loads}
+use Rattle.host_isolation.specs.Calls.{Usable, UsableForHosts, UsableFromLoaded, UsableInOrder}
 use Rattle.host_isolation.proofs.Traced.{traced}
-use Rattle.host_isolation.proofs.Stands.{Stands, is-image, in-order, tables-ok, stands-whole, order-0, is-emptied, emptied-stands, kept-stands}
-use Rattle.host_isolation.proofs.OneCall.{startFor, step-low}
+use Rattle.host_isolation.proofs.Stands.{Stands, is-image, in-order, tables-ok, stands-whole, order-0, is-emptied, emptied-stands, is-loaded, loaded-ok, loaded-stands, kept-stands}
+use Rattle.host_isolation.proofs.OneCall.{startOf, step-low}
 use Rattle.host_isolation.proofs.ForHosts.{call-makes}
 
 -- past 14 only what comes later
@@ -67,9 +76,23 @@ traced-low (i ∷ is) s ok =
     and-intro (le-leb (step (enter s i) (i .request) .answer .result) 12 (result-at-most-12 (enter s i) (i .request) entered (i .whole)))
     (traced-low is (step (enter s i) (i .request) .state) (step-keeps (enter s i) (i .request) entered (i .whole)))
 
-start-ok : (b : Bool) (s : State) → DockOk s → DockOk (startFor b s)
-start-ok true s ok = empty-dock-ok
-start-ok false s ok = ok
+start-ok : (c : Call) (s : State) → DockOk s → DockOk (startOf c s)
+start-ok emptying s ok = empty-dock-ok
+start-ok (stepping sheet request answer) s ok = ok
+start-ok (serving sheets requests answers) s ok = ok
+start-ok (tracing input output) s ok = ok
+start-ok (reporting scratch output) s ok = ok
+start-ok (saving output) s ok = ok
+start-ok (loading text) s ok = loaded-ok text (s .store) (ok .store)
+start-ok (checking pad program number sheet right) s ok = ok
+start-ok testing s ok = ok
+
+-- a last number that is read from two bytes has 16 bits
+numbers-fit : (bytes : List ℕ) → ((i : ℕ) → getD bytes i 0 < 256) → NumbersFit (decode bytes)
+numbers-fit bytes small pad program p q =
+    let at = 8 * pad + program in
+    let said = sym (flattened bytes .last pad program p q) ∙ last-here bytes at (omega arith) in
+    omega (arith, said, small (lastStart at), small (lastStart at + 1))
 
 module _ (d : Dock) (s : State) (h : Stands d s) where
   abbrev long : length (d .image) ≡ imageSize
@@ -177,39 +200,81 @@ module _ (d : Dock) (s : State) (h : Stands d s) where
   reported-not-14 scratch output (pass e) z = let z′ : _≡_ {A = ℕ} 0 14 = rw e at z in omega arith
   reported-not-14 scratch output (fail e) z = report-not-14 scratch output (rw e at z)
 
+  save-0 : ((i : ℕ) → getD (d .image) i 0 < 256) → (output : List ℕ) → savedRoom ≤ length output → saveRefusal (lentSave d output) ≡ 0
+  unfolding saveRefusal _when_else_
+  save-0 small output room =
+      let short = saved-short (decode (d .image)) (decoded-sized (d .image)) (numbers-fit (d .image) small) (in-order d s h) in
+      rw (
+        eq-eqb (length (d .image)) imageSize long,
+        tables-ok d s h,
+        le-leb (length (saved (decode (d .image)))) (length output) (omega (arith, short, room)),
+      )
+
+  save-not-14 : (output : List ℕ) → saveRefusal (lentSave d output) ≡ 14 → ⊥
+  unfolding saveRefusal
+  save-not-14 output z =
+      let short = not (leb (length (saved (decode (d .image)))) (length output)) in
+      not-14 (not (eqb (length (d .image)) imageSize)) (17 when short else 0) (only-17 short) (rw (tables-ok d s h) at z)
+
+  saved-not-14 : (output : List ℕ) → Case (eqb (saveRefusal (lentSave d output)) 0) → saveLent (lentSave d output) .result ≡ 14 → ⊥
+  unfolding saveLent
+  saved-not-14 output (pass e) z = let z′ : _≡_ {A = ℕ} 0 14 = rw e at z in omega arith
+  saved-not-14 output (fail e) z = save-not-14 output (rw e at z)
+
+  load-said : (text : List ℕ) → result d (loading text) ≡ load text .result
+  unfolding result
+  load-said text i = is-loaded (d .image) text long i .result
+
   check-low : (pad program number sheet right : ℕ) → checkImage (d .image) pad program number sheet right ≤ 12
   unfolding checkImage dockCheck _when_else_
   check-low pad program number sheet right =
       rw (eq-eqb (length (d .image)) imageSize long, is-image d s h, in-order d s h) (dock-refusal-low (decode (d .image)) (nameOf pad program number) sheet right)
 
-  never : (c : Call) → result d c ≡ 14 → ⊥
+  never : (c : Call) → loads c ≡ false → result d c ≡ 14 → ⊥
   unfolding result
-  never emptying z = let zero14 : _≡_ {A = ℕ} 0 14 = sym empty-0 ∙ z in omega arith
-  never (stepping sheet request answer) z = stepped-not-14 sheet request answer (case (eqb (stepRefusal (lent d sheet request answer)) 0)) z
-  never (serving sheets requests answers) z = served-not-14 sheets requests answers (case (eqb (batchRefusal (lent d sheets requests answers)) 0)) z
-  never (tracing input output) z = traced-not-14 input output (case (eqb (traceRefusal (lentTrace d input output)) 0)) z
-  never (reporting scratch output) z = reported-not-14 scratch output (case (eqb (reportRefusal (lentReport d scratch output)) 0)) z
-  never (checking pad program number sheet right) z = let low = check-low pad program number sheet right in omega (arith, low, z)
-  never testing z = let zero14 : _≡_ {A = ℕ} 0 14 = sym (order-0 d s h) ∙ z in omega arith
+  never emptying l z = let zero14 : _≡_ {A = ℕ} 0 14 = sym empty-0 ∙ z in omega arith
+  never (stepping sheet request answer) l z = stepped-not-14 sheet request answer (case (eqb (stepRefusal (lent d sheet request answer)) 0)) z
+  never (serving sheets requests answers) l z = served-not-14 sheets requests answers (case (eqb (batchRefusal (lent d sheets requests answers)) 0)) z
+  never (tracing input output) l z = traced-not-14 input output (case (eqb (traceRefusal (lentTrace d input output)) 0)) z
+  never (reporting scratch output) l z = reported-not-14 scratch output (case (eqb (reportRefusal (lentReport d scratch output)) 0)) z
+  never (saving output) l z = saved-not-14 output (case (eqb (saveRefusal (lentSave d output)) 0)) z
+  never (loading text) l z = contradiction refl l
+  never (checking pad program number sheet right) l z = let low = check-low pad program number sheet right in omega (arith, low, z)
+  never testing l z = let zero14 : _≡_ {A = ℕ} 0 14 = sym (order-0 d s h) ∙ z in omega arith
 
   low-answers : (c : Call) → all lowAnswer (made d c) ≡ true
   unfolding lowAnswer
-  low-answers c = let m = call-makes d s h c in ap (all lowAnswer) (m .same) ∙ traced-low (m .sent) (startFor (empties c) s) (start-ok (empties c) s (h .ok))
+  low-answers c = let m = call-makes d s h c in ap (all lowAnswer) (m .same) ∙ traced-low (m .sent) (startOf c s) (start-ok c s (h .ok))
 
   usable : Usable d
   unfolding lowAnswer
-  usable = record { whole = stands-whole d s h; never14 = never; answered = low-answers; emptied = empty-0; stepped = step-0; served = serve-0; traced = trace-0; reported = report-0 }
+  usable = record {
+    whole = stands-whole d s h;
+    never14 = never;
+    answered = low-answers;
+    emptied = empty-0;
+    stepped = step-0;
+    served = serve-0;
+    traced = trace-0;
+    reported = report-0;
+    saved = save-0;
+    loaded = load-said;
+  }
 
 usable-after : (cs : List Call) (d : Dock) (s : State) → Stands d s → Usable (leftByAll d cs)
 unfolding leftByAll
 usable-after [] d s h = usable d s h
 usable-after (c ∷ cs) d s h =
     let m = call-makes d s h c in
-    usable-after cs (left d c) (after (startFor (empties c) s) (m .sent)) (m .stands)
+    usable-after cs (left d c) (after (startOf c s) (m .sent)) (m .stands)
 
 pub usable-for-hosts : UsableForHosts
 unfolding leftByAll
 usable-for-hosts d w cs = usable-after cs (left d emptying) emptyDock (emptied-stands d w)
+
+pub usable-from-loaded : UsableFromLoaded
+unfolding leftByAll
+usable-from-loaded d w text cs = usable-after cs (left d (loading text)) (withLoaded text (d .store) []) (loaded-stands d w text (d .store) refl)
 
 pub usable-in-order : UsableInOrder
 unfolding result

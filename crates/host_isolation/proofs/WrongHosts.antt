@@ -6,7 +6,7 @@
 use Prim.Native.Nat.{ℕ}
 use native.Mathlib.Omega.{arith}
 use mathlib.Core.Path.{_≡_, refl, sym, ap, _∙_}
-use mathlib.Core.Bool.{true, xor, cond}
+use mathlib.Core.Bool.{true, false, xor, cond}
 use mathlib.Core.List.{List, [], _∷_, _++_}
 use lib.Dec.{eqb}
 use lib.ListN.{getD, replicate}
@@ -38,7 +38,7 @@ use Rattle.machine.specs.Sequence.{Sent, enter, Group, fromGroup, crosses}
 use Rattle.machine.specs.Isolation.{ForEvery, no-left, both}
 use Rattle.machine.proofs.CaseLines.{request}
 use Rattle.isolation.proofs.TwoSequences.{head-both, tail-both}
-use Rattle.host_isolation.specs.Calls.{Dock, Call, emptying, serving, testing, result, left, Exchange, made, empties, exchanges, noneCrosses, ofGroup, Given, Agree, Isolated}
+use Rattle.host_isolation.specs.Calls.{Dock, Call, emptying, serving, testing, result, left, Exchange, made, loads, begins, exchanges, noneCrosses, ofGroup, Given, Agree, Isolated}
 use Rattle.host_isolation.proofs.Traced.{seenBy, traced}
 use Rattle.host_isolation.proofs.Stands.{Stands, stands-whole, emptied-stands}
 use Rattle.host_isolation.proofs.OneBatch.{filled, sentAt, batch-same}
@@ -52,19 +52,20 @@ Host = Dock → List Call → List Exchange
 
 abbrev pub IsolatedFor : Host → Type 0
 IsolatedFor seen =
-    (g : Group) (d e : Dock) (cs ds : List Call) → Isolated g (seen (left d emptying) cs) (seen (left e emptying) ds)
+    (g : Group) (d e : Dock) (cs ds : List Call) → some loads cs ≡ false → some loads ds ≡ false
+    → Isolated g (seen (left d emptying) cs) (seen (left e emptying) ds)
 
 -- the right one
 from-emptied : (d : Dock) (cs : List Call) → exchanges d (emptying ∷ cs) ≡ exchanges (left d emptying) cs
 unfolding exchanges made
-from-emptied d cs = go (case (some empties cs))
+from-emptied d cs = go (case (some begins cs))
   where
-    go : Case (some empties cs) → exchanges d (emptying ∷ cs) ≡ exchanges (left d emptying) cs
+    go : Case (some begins cs) → exchanges d (emptying ∷ cs) ≡ exchanges (left d emptying) cs
     go (Tests.pass e) = rw e
     go (fail e) = rw e
 
 pub right-host : IsolatedFor exchanges
-right-host g d e cs ds = rw (sym (from-emptied d cs), sym (from-emptied e ds)) (isolated-for-hosts g d e cs ds)
+right-host g d e cs ds k l = rw (sym (from-emptied d cs), sym (from-emptied e ds)) (isolated-for-hosts g d e cs ds k l)
 
 -- counts across emptyings
 unfoldable pub across : Host
@@ -166,12 +167,12 @@ record Everyones (xs : List Exchange) : Type 0 where
   stay : noneCrosses everyone xs ≡ true
 
 would-agree : (seen : Host) (cs ds : List Call) (xs ys : List Exchange) → seen emptiedDock cs ≡ xs → seen emptiedDock ds ≡ ys
-    → Everyones xs → Everyones ys → ForEvery Given xs ys → IsolatedFor seen → ForEvery Agree xs ys
-would-agree seen cs ds xs ys p q x y given claim =
+    → some loads cs ≡ false → some loads ds ≡ false → Everyones xs → Everyones ys → ForEvery Given xs ys → IsolatedFor seen → ForEvery Agree xs ys
+would-agree seen cs ds xs ys p q k l x y given claim =
     let ours : ofGroup everyone (seen emptiedDock cs) ≡ xs = ap (ofGroup everyone) p ∙ x .mine in
     let theirs : ofGroup everyone (seen emptiedDock ds) ≡ ys = ap (ofGroup everyone) q ∙ y .mine in
     rw (ours, theirs)
-    at (claim everyone anyDock anyDock cs ds (ap (noneCrosses everyone) p ∙ x .stay) (ap (noneCrosses everyone) q ∙ y .stay)
+    at (claim everyone anyDock anyDock cs ds k l (ap (noneCrosses everyone) p ∙ x .stay) (ap (noneCrosses everyone) q ∙ y .stay)
     (rw (ours, theirs) given))
 
 -- ---- two takes: numbers 1 and 1, or 1 and 2
@@ -192,12 +193,13 @@ takes-given o p x y = record {
       ((λ e. let w : _≡_ {A = ℕ} 0 11 = sym x ∙ e in absurd (omega arith)), (λ e. let w : _≡_ {A = ℕ} 0 11 = sym y ∙ e in absurd (omega arith)));
 }
 
-takes-differ : (seen : Host) (cs ds : List Call) → seen emptiedDock cs ≡ twoTakes one → seen emptiedDock ds ≡ twoTakes two → IsolatedFor seen → ⊥
+takes-differ : (seen : Host) (cs ds : List Call) → seen emptiedDock cs ≡ twoTakes one → seen emptiedDock ds ≡ twoTakes two
+    → some loads cs ≡ false → some loads ds ≡ false → IsolatedFor seen → ⊥
 unfolding answerNumbers
-takes-differ seen cs ds p q claim =
+takes-differ seen cs ds p q k l claim =
     let given : ForEvery Given (twoTakes one) (twoTakes two) =
     both (same-given (seenBy take one)) (both (takes-given one two (λ i. computed .first i .result) (λ i. computed .second i .result)) no-left) in
-    let agree = would-agree seen cs ds (twoTakes one) (twoTakes two) p q (takes-everyones one) (takes-everyones two) given claim in
+    let agree = would-agree seen cs ds (twoTakes one) (twoTakes two) p q k l (takes-everyones one) (takes-everyones two) given claim in
     let same : answerNumbers (one .answer) ≡ answerNumbers (two .answer) = head-both (tail-both agree) .answers in
     let z : _≡_ {A = ℕ} 1 2 = sym (λ i. computed .first i .ticket) ∙ ap (λ (l : List ℕ). getD l 1 0) same ∙ λ i. computed .second i .ticket in
     omega arith
@@ -215,17 +217,17 @@ emptied-again =
     one-made (left d emptying) emptyDock (emptied-stands d (stands-whole d (one .state) taken-once)) take
 
 pub emptying-counts : IsolatedFor across → ⊥
-unfolding across made
+unfolding across made some
 emptying-counts =
     takes-differ across (callFor take ∷ emptying ∷ callFor take ∷ []) (callFor take ∷ callFor take ∷ []) (λ i. take-made i ++ (emptied-again i ++ []))
-    (λ i. take-made i ++ (taken-again i ++ []))
+    (λ i. take-made i ++ (taken-again i ++ [])) refl refl
 
 -- ---- two copies in turn
 pub copies-count : IsolatedFor twoCopies → ⊥
-unfolding inTurn made
+unfolding inTurn made some
 copies-count =
     takes-differ twoCopies (callFor take ∷ callFor take ∷ []) (callFor take ∷ testing ∷ callFor take ∷ []) (λ i. take-made i ++ (take-made i ++ []))
-    (λ i. take-made i ++ (taken-again i ++ []))
+    (λ i. take-made i ++ (taken-again i ++ [])) refl refl
 
 -- ---- put back
 module _ (d : Dock) (s : State) (h : Stands d s) (i : Sent) (rest : List Call) where
@@ -304,7 +306,7 @@ reads-given : (o p : Outcome) → Given (seenBy read o) (seenBy read p)
 reads-given o p = record { numbers = refl; written = λ z. refl; eleven = λ z. let w : _≡_ {A = ℕ} 5 1 = z in absurd (omega arith) }
 
 pub put-back-counts : IsolatedFor putBack → ⊥
-unfolding answerNumbers
+unfolding answerNumbers some
 put-back-counts claim =
     let given : ForEvery Given (twoReads lost) (twoReads gone) =
     both (same-given (seenBy take one)) (both (same-given (seenBy pass passed)) (both (same-given (seenBy recall recalled))
@@ -312,7 +314,7 @@ put-back-counts claim =
     let agree : ForEvery Agree (twoReads lost) (twoReads gone) =
     would-agree putBack (lentAndRecalled (callFor read ∷ callFor read ∷ [])) (lentAndRecalled (bothReads ∷ [])) (twoReads lost) (twoReads gone)
     (all-kept (callFor read ∷ callFor read ∷ []) ∙ ap seenThen one-by-one) (all-kept (bothReads ∷ []) ∙ ap seenThen as-batch)
-    (reads-everyones lost) (reads-everyones gone) given claim in
+    refl refl (reads-everyones lost) (reads-everyones gone) given claim in
     let same : answerNumbers (lost .answer) ≡ answerNumbers (gone .answer) = head-both (tail-both (tail-both (tail-both (tail-both agree)))) .answers in
     let z : _≡_ {A = ℕ} 12 4 = sym (λ i. computed .twelve i .result) ∙ ap (λ (l : List ℕ). getD l 0 0) same ∙ λ i. computed .four i .result in
     omega arith

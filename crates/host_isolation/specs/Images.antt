@@ -1,5 +1,5 @@
--- Laws of what dock_step, dock_serve, dock_trace and dock_empty leave, for every input, tables not in order included: the image is read as the
--- tables that the call leaves, and a refusal leaves the bytes exactly as they were, but for 12.
+-- Laws of what dock_step, dock_serve, dock_trace, dock_empty and dock_load leave, for every input, tables not in order included: the image is
+-- read as the tables that the call leaves, and a refusal leaves the bytes exactly as they were, but for 12 and a text that is turned away.
 use Prim.Native.Nat.{ℕ, _<_}
 use mathlib.Core.Path.{_≡_}
 use mathlib.Core.List.{List}
@@ -12,6 +12,8 @@ use Rattle.lending.specs.Sequence.{met, outcomeAt}
 use Rattle.lending.specs.Batch.{Buffers, Left, batchRefusal, startOf, batch}
 use Rattle.lending.specs.Host.{emptyImage, stepRefusal, stepOutcome, stepImage}
 use Rattle.lending.specs.Trace.{TraceBuffers, stateAfter, traceRefusal, traceLent}
+use Rattle.saved.specs.Load.{load}
+use Rattle.lending.specs.Saved.{loadLent}
 
 -- what a lent buffer of bytes holds
 abbrev pub AllBytes : List ℕ → Type 0
@@ -50,8 +52,15 @@ pub record AfterEmpty (tables store : List ℕ) : Type 0 where
   pub kept : (emptyImage tables store .result ≡ 0 → ⊥) → emptyImage tables store .store ≡ store
   pub other : (length tables ≡ imageSize → ⊥) → emptyImage tables store .tables ≡ tables
 
+-- "A refused load gives empty tables", but with 13 the bytes stay
+pub record AfterLoad (tables text : List ℕ) : Type 0 where
+  pub read : length tables ≡ imageSize → decode (loadLent tables text .tables) ≡ load text .tables
+  pub refused : length tables ≡ imageSize → (loadLent tables text .result ≡ 0 → ⊥) → decode (loadLent tables text .tables) ≡ emptyTables
+  pub other : (length tables ≡ imageSize → ⊥) → loadLent tables text .tables ≡ tables
+
 pub record ImageLaws : Type 0 where
   pub step : (b : Buffers) → AfterStep b
   pub serve : (b : Buffers) → AfterServe b
   pub trace : (b : TraceBuffers) → AfterTrace b
   pub empty : (tables store : List ℕ) → AfterEmpty tables store
+  pub load : (tables text : List ℕ) → AfterLoad tables text
