@@ -13,7 +13,8 @@ use Rattle.lending.specs.Host.{EmptiesImage, stepRefusal, leftBy, stepImage, St
 use Rattle.lending.specs.Trace.{TracesLent}
 use Rattle.lending.specs.Saved.{SavesLent, LoadsLent}
 use Rattle.lending.proofs.Refusals.{step-served}
-use Rattle.host_isolation.specs.Calls.{Dock, Call, emptying, stepping, serving, tracing, saving, loading, lent, lentTrace, lentSave, result, left, inStep, inBatch}
+use Rattle.host_isolation.specs.Calls.{Dock, Call, emptying, stepping, serving, tracing, saving, loading}
+use Rattle.host_isolation.specs.Calls.{lent, lentTrace, lentSave, result, left, inStep, inBatch}
 
 -- what came back, and the dock that was left
 pub record Follows (d : Dock) (c : Call) (result′ : ℕ) (image store : List ℕ) : Type 0 where

@@ -1,5 +1,5 @@
--- The claim for hosts is not weaker than demand 3: each sequence of requests is what a host gets that makes them one by one. So it holds of
--- hosts only because it holds of the machine, and each of its conditions counts as there (isolation/proofs/EachPremiseCounts).
+-- The claims for hosts are not weaker than demand 3: each sequence of requests is what a host gets that makes them one by one. So they hold of
+-- hosts only because they hold of the machine, and each of their conditions counts as there (isolation/proofs/EachPremiseCounts).
 use Prim.Native.Nat.{ℕ}
 use mathlib.Core.Path.{_≡_, refl, ap, _∙_}
 use mathlib.Core.Bool.{true, false}
@@ -14,7 +14,7 @@ use Rattle.machine.specs.State.{State}
 use Rattle.machine.specs.Step.{step}
 use Rattle.machine.specs.Empty.{emptyDock}
 use Rattle.machine.specs.Sequence as machine
-use Rattle.machine.specs.Sequence.{Sent, enter, groupExchanges}
+use Rattle.machine.specs.Sequence.{Sent, enter, Group, groupExchanges}
 use Rattle.machine.specs.Isolation as claim
 use Rattle.machine.specs.Isolation.{ForEvery, no-left, no-right, both, IsolatedFromEmpty}
 use Rattle.machine.specs.Numbers.{answerWidth, answerNumbers}
@@ -23,9 +23,12 @@ use Rattle.isolation.proofs.TwoSequences.{head-both, tail-both}
 use Rattle.image.specs.Image.{encode}
 use Rattle.image.proofs.RoundTrip.{encode-is-image, image-whole}
 use Rattle.lending.specs.Host.{stepRefusal, leftBy}
-use Rattle.host_isolation.specs.Calls.{Dock, WholeDock, Call, emptying, stepping, lent, result, left, Exchange, made, loads, begins, exchanges, noneCrosses, ofGroup, Given, Agree, IsolatedForHosts}
-use Rattle.host_isolation.proofs.Traced.{seenBy, traced, asSeen, edge-seen, group-seen}
-use Rattle.host_isolation.proofs.Stands.{Stands, emptied-stands}
+use Rattle.saved.specs.Claims.{withLoaded, IsolatedFromLoaded}
+use Rattle.host_isolation.specs.Calls.{Dock, WholeDock, Call, emptying, stepping, loading, lent, result, left, Exchange, made, begins, exchanges}
+use Rattle.host_isolation.specs.Calls.{noneCrosses, ofGroup, Given, Agree, Isolated, IsolatedForHosts, IsolatedFromLoadedForHosts}
+use Rattle.host_isolation.proofs.Traced.{seenBy, traced, traced-same, asSeen, edge-seen, group-seen}
+use Rattle.host_isolation.proofs.Stands.{Stands, emptied-stands, loaded-stands}
+use Rattle.host_isolation.proofs.ForHosts.{none-loads}
 use Rattle.host_isolation.proofs.OneCall.{theSent, step-result, step-same, step-left}
 use Rattle.host_isolation.proofs.StaysUsable.{step-0}
 
@@ -45,11 +48,6 @@ none-begins : (is : List Sent) → some begins (callsFor is) ≡ false
 unfolding some callsFor
 none-begins [] = refl
 none-begins (i ∷ is) = none-begins is
-
-none-loads : (is : List Sent) → some loads (callsFor is) ≡ false
-unfolding some callsFor
-none-loads [] = refl
-none-loads (i ∷ is) = none-loads is
 
 module _ (d : Dock) (s : State) (h : Stands d s) (i : Sent) where
   is-served : eqb (stepRefusal (lent d (i .sheet) (numbersOf (i .request)) (replicate answerWidth 0))) 0 ≡ true
@@ -86,7 +84,16 @@ pub sequence-made : (d : Dock) → WholeDock d → (is : List Sent) → exchange
 unfolding exchanges made
 sequence-made d w is = rw (none-begins is) (all-made is (left d emptying) emptyDock (emptied-stands d w))
 
--- ---- so demand 3 follows from the claim for hosts
+pub loaded-made : (d : Dock) → WholeDock d → (text sheet : List ℕ) (is : List Sent)
+    → exchanges d (loading text ∷ callsFor is) ≡ traced (withLoaded text (d .store) sheet) is
+unfolding exchanges made
+loaded-made d w text sheet is =
+    let from = withLoaded text (d .store) [] in
+    rw (none-begins is)
+    (all-made is (left d (loading text)) from (loaded-stands d w text (d .store) refl)
+    ∙ traced-same from (withLoaded text (d .store) sheet) refl refl is)
+
+-- ---- so demand 3 follows from the claims for hosts
 given-one : (x y : machine.Exchange) → claim.Given x y → Given (asSeen x) (asSeen y)
 unfolding answerNumbers
 given-one x y h = record { numbers = h .numbers; written = h .written; eleven = h .eleven }
@@ -110,6 +117,16 @@ agree-called [] ys h = no-left
 agree-called (x ∷ xs) [] h = no-right
 agree-called (x ∷ xs) (y ∷ ys) h = both (agree-one x y (head-both h)) (agree-called xs ys (tail-both h))
 
+seen-is-enough : (g : Group) (s : State) (is js : List Sent) (xs ys : List Exchange) → xs ≡ traced s is → ys ≡ traced s js
+    → Isolated g xs ys → claim.Isolated g s is js
+seen-is-enough g s is js xs ys ours theirs isolated a b given =
+    let mine : ofGroup g xs ≡ map asSeen (groupExchanges g s is) = ap (ofGroup g) ours ∙ group-seen g s is in
+    let yours : ofGroup g ys ≡ map asSeen (groupExchanges g s js) = ap (ofGroup g) theirs ∙ group-seen g s js in
+    agree-called (groupExchanges g s is) (groupExchanges g s js)
+    (rw (mine, yours)
+    at (isolated (ap (noneCrosses g) ours ∙ edge-seen g s is ∙ a) (ap (noneCrosses g) theirs ∙ edge-seen g s js ∙ b)
+    (rw (mine, yours) (given-called (groupExchanges g s is) (groupExchanges g s js) given))))
+
 -- some dock of the right lengths
 pub anyDock : Dock
 anyDock = record { image = encode emptyTables; store = replicate 16384 0 }
@@ -119,15 +136,16 @@ unfolding anyDock
 any-whole = record { image = image-whole (encode emptyTables) (encode-is-image emptyTables); store = length-replicate {A = ℕ} 16384 0 }
 
 pub hosts-are-enough : IsolatedForHosts → IsolatedFromEmpty
-hosts-are-enough hosts g is js a b given =
-    let ours = sequence-made anyDock any-whole is in
-    let theirs = sequence-made anyDock any-whole js in
-    let mine : ofGroup g (exchanges anyDock (emptying ∷ callsFor is)) ≡ map asSeen (groupExchanges g emptyDock is) =
-    ap (ofGroup g) ours ∙ group-seen g emptyDock is in
-    let yours : ofGroup g (exchanges anyDock (emptying ∷ callsFor js)) ≡ map asSeen (groupExchanges g emptyDock js) =
-    ap (ofGroup g) theirs ∙ group-seen g emptyDock js in
-    agree-called (groupExchanges g emptyDock is) (groupExchanges g emptyDock js)
-    (rw (mine, yours)
-    at (hosts g anyDock anyDock (callsFor is) (callsFor js) (none-loads is) (none-loads js)
-    (ap (noneCrosses g) ours ∙ edge-seen g emptyDock is ∙ a) (ap (noneCrosses g) theirs ∙ edge-seen g emptyDock js ∙ b)
-    (rw (mine, yours) (given-called (groupExchanges g emptyDock is) (groupExchanges g emptyDock js) given))))
+hosts-are-enough hosts g is js =
+    seen-is-enough g emptyDock is js (exchanges anyDock (emptying ∷ callsFor is)) (exchanges anyDock (emptying ∷ callsFor js))
+    (sequence-made anyDock any-whole is) (sequence-made anyDock any-whole js)
+    (hosts g anyDock anyDock (callsFor is) (callsFor js) (none-loads (callsFor is) (none-begins is)) (none-loads (callsFor js) (none-begins js)))
+
+pub loaded-hosts-are-enough : IsolatedFromLoadedForHosts → IsolatedFromLoaded
+unfolding anyDock
+loaded-hosts-are-enough hosts g text store sheet long unlinked is js =
+    let d : Dock = record { image = anyDock .image; store = store } in
+    let whole : WholeDock d = record { image = any-whole .image; store = long } in
+    seen-is-enough g (withLoaded text store sheet) is js (exchanges d (loading text ∷ callsFor is)) (exchanges d (loading text ∷ callsFor js))
+    (loaded-made d whole text sheet is) (loaded-made d whole text sheet js)
+    (hosts g text d d (callsFor is) (callsFor js) refl unlinked (none-begins is) (none-begins js))

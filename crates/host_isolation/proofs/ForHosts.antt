@@ -16,7 +16,7 @@ use Rattle.isolation.proofs.Isolation.{isolation}
 use Rattle.saved.specs.Claims.{withLoaded}
 use Rattle.loaded_isolation.proofs.FromLoaded.{isolated-from-loaded}
 use Rattle.host_isolation.specs.Calls.{Dock, WholeDock, Call, emptying, stepping, serving, tracing, reporting, saving, loading, checking, testing}
-use Rattle.host_isolation.specs.Calls.{left, leftByAll, Exchange, made, loads, begins, exchanges, noneCrosses, ofGroup}
+use Rattle.host_isolation.specs.Calls.{left, leftByAll, Exchange, made, empties, loads, begins, exchanges, noneCrosses, ofGroup}
 use Rattle.host_isolation.specs.Calls.{Isolated, IsolatedForHosts, IsolatedFromLoadedForHosts, BegunAnew}
 use Rattle.host_isolation.proofs.Traced.{traced, traced-append, asSeen, edge-seen, group-seen, given-seen, agree-seen}
 use Rattle.host_isolation.proofs.Stands.{Stands, stands-whole, emptied-stands, loaded-stands}
@@ -95,24 +95,14 @@ since-emptied d w cs l = go (case (some begins cs)) (sequence-of cs (left d empt
     go (pass e) q = record { sent = q .sent; same = rw e (rw e at (q .same)) }
     go (fail e) q = record { sent = q .sent; same = rw e (rw e at (q .same)) }
 
--- loaded, whatever its image held
-loading-begins : (c : Call) → begins c ≡ false → loads c ≡ false
-loading-begins emptying e = refl
-loading-begins (stepping sheet request answer) e = refl
-loading-begins (serving sheets requests answers) e = refl
-loading-begins (tracing input output) e = refl
-loading-begins (reporting scratch output) e = refl
-loading-begins (saving output) e = refl
-loading-begins (loading text) e = e
-loading-begins (checking pad program number sheet right) e = refl
-loading-begins testing e = refl
-
-none-loads : (cs : List Call) → some begins cs ≡ false → some loads cs ≡ false
+pub none-loads : (cs : List Call) → some begins cs ≡ false → some loads cs ≡ false
 unfolding some
 none-loads [] e = refl
 none-loads (c ∷ cs) e =
-    rw (loading-begins c (or-false-l (begins c) (some begins cs) e)) (none-loads cs (or-false-r (begins c) (some begins cs) e))
+    let here = or-false-r (empties c) (loads c) (or-false-l (begins c) (some begins cs) e) in
+    rw here (none-loads cs (or-false-r (begins c) (some begins cs) e))
 
+-- loaded, whatever its image held
 since-loaded : (d : Dock) → WholeDock d → (text store : List ℕ) → d .store ≡ store → (cs : List Call) → some begins cs ≡ false
     → Sequence (exchanges d (loading text ∷ cs)) (withLoaded text store [])
 unfolding exchanges made

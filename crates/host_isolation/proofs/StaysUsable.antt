@@ -39,12 +39,13 @@ use Rattle.saved.specs.Save.{savedRoom, saved}
 use Rattle.saved.specs.Load.{load}
 use Rattle.saved.specs.Claims.{NumbersFit, withLoaded}
 use Rattle.restoring.proofs.SavedShort.{saved-short}
-use Rattle.lending.specs.Saved.{saveRefusal, saveLent, loadLent}
-use Rattle.host_isolation.specs.Calls.{Dock, WholeDock, Call, emptying, stepping, serving, tracing, reporting, saving, loading, checking, testing}
+use Rattle.lending.specs.Saved.{saveRefusal, saveLent}
+use Rattle.host_isolation.specs.Calls.{Dock, Call, emptying, stepping, serving, tracing, reporting, saving, loading, checking, testing}
 use Rattle.host_isolation.specs.Calls.{lent, lentTrace, lentReport, lentSave, result, left, leftByAll, Exchange, made, loads}
 use Rattle.host_isolation.specs.Calls.{Usable, UsableForHosts, UsableFromLoaded, UsableInOrder}
 use Rattle.host_isolation.proofs.Traced.{traced}
-use Rattle.host_isolation.proofs.Stands.{Stands, is-image, in-order, tables-ok, stands-whole, order-0, is-emptied, emptied-stands, is-loaded, loaded-ok, loaded-stands, kept-stands}
+use Rattle.host_isolation.proofs.Stands.{Stands, is-image, in-order, tables-ok, stands-whole, order-0, kept-stands}
+use Rattle.host_isolation.proofs.Stands.{is-emptied, emptied-stands, is-loaded, loaded-ok, loaded-stands}
 use Rattle.host_isolation.proofs.OneCall.{startOf, step-low}
 use Rattle.host_isolation.proofs.ForHosts.{call-makes}
 

@@ -38,7 +38,8 @@ use Rattle.machine.specs.Sequence.{Sent, enter, Group, fromGroup, crosses}
 use Rattle.machine.specs.Isolation.{ForEvery, no-left, both}
 use Rattle.machine.proofs.CaseLines.{request}
 use Rattle.isolation.proofs.TwoSequences.{head-both, tail-both}
-use Rattle.host_isolation.specs.Calls.{Dock, Call, emptying, serving, testing, result, left, Exchange, made, loads, begins, exchanges, noneCrosses, ofGroup, Given, Agree, Isolated}
+use Rattle.host_isolation.specs.Calls.{Dock, Call, emptying, serving, testing, result, left, Exchange, made, loads, begins, exchanges}
+use Rattle.host_isolation.specs.Calls.{noneCrosses, ofGroup, Given, Agree, Isolated}
 use Rattle.host_isolation.proofs.Traced.{seenBy, traced}
 use Rattle.host_isolation.proofs.Stands.{Stands, stands-whole, emptied-stands}
 use Rattle.host_isolation.proofs.OneBatch.{filled, sentAt, batch-same}

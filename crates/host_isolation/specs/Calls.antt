@@ -8,7 +8,7 @@
 use Prim.Native.Nat.{ℕ, _*_, _≤_, _<_}
 use mathlib.Core.Path.{_≡_}
 use mathlib.Core.Logic.{_↔_}
-use mathlib.Core.Bool.{Bool, true, false, not, _&&_, cond}
+use mathlib.Core.Bool.{Bool, true, false, not, _&&_, _||_, cond}
 use mathlib.Core.List.{List, [], _∷_, _++_}
 use lib.Dec.{leb, eqb}
 use lib.ListN.{length, getD, take, drop}
@@ -150,6 +150,17 @@ made d testing = []
 
 -- ---- the requests of many calls, in their order: "Both begin alike, with the tables and store that emptying leaves", or "from the same loaded
 -- tables and one common store", so that what was before the last emptying or loading is no part of the sequence
+abbrev pub empties : Call → Bool
+empties emptying = true
+empties (stepping sheet request answer) = false
+empties (serving sheets requests answers) = false
+empties (tracing input output) = false
+empties (reporting scratch output) = false
+empties (saving output) = false
+empties (loading text) = false
+empties (checking pad program number sheet right) = false
+empties testing = false
+
 abbrev pub loads : Call → Bool
 loads emptying = false
 loads (stepping sheet request answer) = false
@@ -162,15 +173,7 @@ loads (checking pad program number sheet right) = false
 loads testing = false
 
 abbrev pub begins : Call → Bool
-begins emptying = true
-begins (stepping sheet request answer) = false
-begins (serving sheets requests answers) = false
-begins (tracing input output) = false
-begins (reporting scratch output) = false
-begins (saving output) = false
-begins (loading text) = true
-begins (checking pad program number sheet right) = false
-begins testing = false
+begins c = empties c || loads c
 
 unfoldable pub exchanges : Dock → List Call → List Exchange
 exchanges d [] = []
