@@ -44,7 +44,7 @@ pub callsFor : List Sent → List Call
 callsFor [] = []
 callsFor (i ∷ is) = callFor i ∷ callsFor is
 
-none-begins : (is : List Sent) → some begins (callsFor is) ≡ false
+pub none-begins : (is : List Sent) → some begins (callsFor is) ≡ false
 unfolding some callsFor
 none-begins [] = refl
 none-begins (i ∷ is) = none-begins is

@@ -87,7 +87,7 @@ putBack d [] = []
 putBack d (c ∷ cs) = made d c ++ putBack (cond (eqb (result d c) 0) (left d c) d) cs
 
 -- ---- the example: a sheet is taken, lent to another pad and recalled, and then read there
-abbrev sentFor : ℕ → ℕ → ℕ → ℕ → ℕ → ℕ → ℕ → ℕ → Sent
+abbrev pub sentFor : ℕ → ℕ → ℕ → ℕ → ℕ → ℕ → ℕ → ℕ → Sent
 sentFor pad op ticket topad toprogram first count rights =
     record { request = request pad 0 op ticket topad toprogram first count rights; sheet = replicate 64 0; whole = refl }
 
@@ -100,10 +100,10 @@ pass = sentFor 0 2 1 1 0 0 1 7
 abbrev recall : Sent
 recall = sentFor 0 3 2 0 0 0 0 0
 
-abbrev read : Sent
+abbrev pub read : Sent
 read = sentFor 1 5 1 0 0 0 0 0
 
-abbrev serveOn : State → Sent → Outcome
+abbrev pub serveOn : State → Sent → Outcome
 serveOn s i = step (enter s i) (i .request)
 
 abbrev one : Outcome
@@ -303,7 +303,7 @@ reads-everyones : (o : Outcome) → Everyones (twoReads o)
 unfolding ofGroup fromGroup isProgram everyone noneCrosses all crosses xor
 reads-everyones o = record { mine = refl; stay = refl }
 
-reads-given : (o p : Outcome) → Given (seenBy read o) (seenBy read p)
+pub reads-given : (o p : Outcome) → Given (seenBy read o) (seenBy read p)
 reads-given o p = record { numbers = refl; written = λ z. refl; eleven = λ z. let w : _≡_ {A = ℕ} 5 1 = z in absurd (omega arith) }
 
 pub put-back-counts : IsolatedFor putBack → ⊥
