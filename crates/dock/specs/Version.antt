@@ -1,5 +1,5 @@
 use Prim.Native.Nat.{ℕ}
 
--- 2.0.0, as major * 10000 + minor * 100 + patch
+-- 3.0.0, as major * 10000 + minor * 100 + patch
 abbrev pub version : ℕ
-version = 20101
+version = 30000

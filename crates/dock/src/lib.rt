@@ -4,6 +4,7 @@ ghost use mathlib.Core.Path.{_≡_};
 ghost use Rattle.image.specs.Layout.{imageSize};
 ghost use Rattle.lending.specs.Batch.{buffersOf, Leaves};
 ghost use Rattle.lending.specs.Report.{reportBuffers, ReportsLent};
+ghost use Rattle.lending.specs.Saved.{saveBuffers, SavesLent, LoadsLent};
 ghost use Rattle.lending.specs.Trace.{traceBuffers, TracesLent};
 ghost use Rattle.lending.specs.Host.{EmptiesImage, Steps, orderOf, checkImage};
 ghost use Rattle.dock.specs.Version.{version};
@@ -13,7 +14,7 @@ use op_form::REQUEST;
 use tables::Name;
 
 // The boundary's version: major * 10000 + minor * 100 + patch.
-pub const VERSION: u32 = 20101;
+pub const VERSION: u32 = 30000;
 
 // A host compares its major number with that of the header that it was compiled with.
 #[no_mangle]
@@ -132,4 +133,20 @@ pub extern "C" fn dock_report(
     ensures { λ r. ⌜ ReportsLent (reportBuffers (now (tables .entry)) (now (scratch .entry)) (now (output .entry))) r (now (scratch .exit)) (now (output .exit)) (now (length .exit)) ⌝ }
 {
     text_report::report_lent(tables, scratch, output, length)
+}
+
+// The tables as text. Its length, 0 with a refusal, goes to `length`.
+#[no_mangle]
+pub extern "C" fn dock_save(tables: &[u8], output: &mut [u8], length: &mut usize) -> u16
+    ensures { λ r. ⌜ SavesLent (saveBuffers (now (tables .entry)) (now (output .entry))) r (now (output .exit)) (now (length .exit)) ⌝ }
+{
+    text_save::save_lent(tables, output, length)
+}
+
+// The tables of a text. The store is in no text, and is not lent.
+#[no_mangle]
+pub extern "C" fn dock_load(tables: &mut [u8], text: &[u8]) -> u16
+    ensures { λ r. ⌜ LoadsLent (now (tables .entry)) (now (text .entry)) r (now (tables .exit)) ⌝ }
+{
+    text_load::load_lent(tables, text)
 }
