@@ -21,6 +21,18 @@ pub record Follows (d : Dock) (c : Call) (result′ : ℕ) (image store : List �
   pub result : result′ ≡ result d c
   pub dock : record { image = image; store = store } ≡ left d c
 
+-- handed the tables alone, so that the store stays
+pub dock-load : (d : Dock) (text : List ℕ) (result′ : ℕ) (tables : List ℕ) → LoadsLent (d .image) text result′ tables
+    → Follows d (loading text) result′ tables (d .store)
+unfolding result left
+dock-load d text result′ tables h = record { result = h .result; dock = λ i. record { image = h .tables i; store = d .store } }
+
+-- and only to read
+pub dock-save : (d : Dock) (output : List ℕ) (result′ : ℕ) (output′ : List ℕ) (size : ℕ) → SavesLent (lentSave d output) result′ output′ size
+    → Follows d (saving output) result′ (d .image) (d .store)
+unfolding result left
+dock-save d output result′ output′ size h = record { result = h .result; dock = refl }
+
 module _ (d : Dock) (result′ : ℕ) (tables store : List ℕ) where
   pub dock-empty : EmptiesImage (d .image) (d .store) result′ tables store → Follows d emptying result′ tables store
   unfolding result left
@@ -30,16 +42,6 @@ module _ (d : Dock) (result′ : ℕ) (tables store : List ℕ) where
       → Follows d (tracing input output) result′ tables store
   unfolding result left
   dock-trace input output output′ size h = record { result = h .result; dock = λ i. record { image = h .tables i; store = h .store i } }
-
-  -- handed the tables alone, so that the store stays
-  pub dock-load : (text : List ℕ) → LoadsLent (d .image) text result′ tables → Follows d (loading text) result′ tables (d .store)
-  unfolding result left
-  dock-load text h = record { result = h .result; dock = λ i. record { image = h .tables i; store = d .store } }
-
-  pub dock-save : (output output′ : List ℕ) (size : ℕ) → SavesLent (lentSave d output) result′ output′ size
-      → Follows d (saving output) result′ (d .image) (d .store)
-  unfolding result left
-  dock-save output output′ size h = record { result = h .result; dock = refl }
 
   module _ (sheet request answer sheet′ answer′ : List ℕ) where
     pub dock-step : Steps (lent d sheet request answer) result′ tables store sheet′ answer′

@@ -4,23 +4,23 @@
 use Prim.Native.Nat.{ℕ}
 use native.Mathlib.Omega.{arith}
 use mathlib.Core.Path.{_≡_, refl, sym, ap, _∙_}
-use mathlib.Core.Bool.{true, false, _&&_, xor}
-use mathlib.Core.List.{List, [], _∷_, _++_, map, flatMap}
+use mathlib.Core.Bool.{true, false, _&&_}
+use mathlib.Core.List.{List, [], _∷_}
 use lib.Dec.{eqb}
-use lib.ListN.{getD, take, replicate, length-replicate}
+use lib.ListN.{getD, replicate, length-replicate}
 use Rattle.lists.specs.Tests.{implies, between}
-use Rattle.lists.specs.Lists.{firstIndex, all, some, keep, countOf, noTwo, allAt, someAt, mapAt, least, filled}
+use Rattle.lists.specs.Lists.{firstIndex, all, some, keep, countOf, noTwo, allAt, someAt, mapAt, filled}
 use Rattle.lists.specs.Parts.{tabulate}
 use Rattle.rights.specs.Rules.{within}
 use Rattle.tables.specs.declared.Tables.{Tables}
 use Rattle.tables.specs.Names.{eqName, isProgram, sameProgram, emptyTables}
 use Rattle.tables.specs.Lookup.{hasNumber, ticketIn, lookup, isNamed, entryIn}
 use Rattle.tables.specs.Chains.{reaches, endOf}
-use Rattle.tables.specs.Sheets.{apart, inside, outside, isFreeRun, lowestRun, hasRun}
+use Rattle.tables.specs.Sheets.{apart, inside}
 use Rattle.tables.specs.Order.{everyTicketOf, everyTicket, someTicketOf, someTicket, everyEntry, numbersOk, t1, spanOk, t2, parentOk, childOk, t3, t4}
 use Rattle.tables.specs.Order.{entryNamesOk, grantOk, parentEntryOk, entryOk, rootsOk, t5, recallParentOk, isChildOf, farTargetOk, targetOk, recallOk, t6, inOrder}
-use Rattle.tables.specs.Change.{isFree, hasPlace, withTicket, withProgram, give, isSpare, putEntry, dropTicket, dropInProgram, dropInPad, dropTickets, dropEntry, dropEntries}
-use Rattle.machine.specs.State.{answerOf, accepted, refused, withTables, sheetAt, putSheets, clearSheets, State, Outcome}
+use Rattle.tables.specs.Change.{dropTicket, dropInProgram, dropInPad, dropTickets, dropEntry, dropEntries}
+use Rattle.machine.specs.State.{answerOf, accepted, refused, withTables, sheetAt, State, Outcome}
 use Rattle.machine.specs.Refusal.{_when_else_, isSpent}
 use Rattle.machine.specs.Operation.{operationOf, usedBy, fieldOk, fieldsOk}
 use Rattle.machine.specs.Recall.{recallRefusal, lentAway, recallTables, afterRecall}
@@ -32,7 +32,7 @@ use Rattle.machine.specs.Numbers.{answerNumbers}
 use Rattle.machine.specs.Sequence.{Sent, enter, Group, fromGroup, crosses}
 use Rattle.machine.specs.Isolation.{ForEvery, no-left, both, Unlinked}
 use Rattle.image.specs.Image.{kindOf}
-use Rattle.text.specs.Bytes.{bytes, lineEnd, sameBytes}
+use Rattle.text.specs.Bytes.{bytes, sameBytes}
 use Rattle.text.specs.Reading.{inFront, cut, lines, fields, isDigit, numberFrom, isNumber, noLeadingZero, isValue, hasValues, valuesOf}
 use Rattle.text.specs.Names.{named, behindNames}
 use Rattle.saved.specs.Row.{columnNames, isLastRow, isTicketRow, isEntryRow, ofProgram, zeroUnless, ownOk, otherOk, sheetsOk, rowOk, lineOk, key}
@@ -75,14 +75,12 @@ record Computed : Type 0 where
   four : missed .answer ≡ answerOf 4 0 0
 
 computed : Computed
-unfolding implies between firstIndex all some keep countOf noTwo allAt someAt mapAt least filled tabulate within
-    eqName isProgram sameProgram emptyTables hasNumber ticketIn lookup isNamed entryIn reaches endOf
-    apart inside outside isFreeRun lowestRun hasRun
+unfolding implies between firstIndex all some keep countOf noTwo allAt someAt mapAt filled tabulate within
+    eqName isProgram sameProgram emptyTables hasNumber ticketIn lookup isNamed entryIn reaches endOf apart inside
     everyTicketOf everyTicket someTicketOf someTicket everyEntry numbersOk t1 spanOk t2 parentOk childOk t3 t4
     entryNamesOk grantOk parentEntryOk entryOk rootsOk t5 recallParentOk isChildOf farTargetOk targetOk recallOk t6 inOrder
-    isFree hasPlace withTicket withProgram give isSpare putEntry dropTicket dropInProgram dropInPad dropTickets dropEntry dropEntries
-    accepted refused withTables sheetAt putSheets clearSheets _when_else_ isSpent operationOf usedBy fieldOk fieldsOk
-    recallRefusal lentAway recallTables afterRecall
+    dropTicket dropInProgram dropInPad dropTickets dropEntry dropEntries
+    accepted refused withTables sheetAt _when_else_ isSpent operationOf usedBy fieldOk fieldsOk recallRefusal lentAway recallTables afterRecall
     dockRefusal accessRefusal afterRead ownRefusal requestRefusal lengthsOk refusal afterOwn dropHead outcome step enter emptyDock
     kindOf bytes sameBytes inFront cut lines fields isDigit numberFrom isNumber noLeadingZero isValue hasValues valuesOf named behindNames
     columnNames isLastRow isTicketRow isEntryRow ofProgram zeroUnless ownOk otherOk sheetsOk rowOk lineOk key programs

@@ -4,7 +4,7 @@
 -- others makes a dock refuse is `UsableForHosts`, `UsableFromLoaded`, and `UsableInOrder` of tables of any origin.
 -- The first is false of three wrong hosts, by computed examples (proofs/WrongHosts): one that lends two copies of its dock in turn, so that a
 -- call does not meet what the last one left; one that puts back the bytes that a refused request met, which on 12 are not those that it left;
--- one that counts requests across an emptying.
+-- one that counts requests across an emptying. What is asked where a text is loaded counts too (proofs/LoadedPremises).
 use Prim.Native.Nat.{ℕ, _*_, _≤_, _<_}
 use mathlib.Core.Path.{_≡_}
 use mathlib.Core.Logic.{_↔_}
