@@ -51,19 +51,3 @@ module _ (bytes : List ℕ) where
   pub entries-decoded : entriesIn bytes ≡ decode bytes .entries
   unfolding entriesIn decode
   entries-decoded = refl
-
--- ---- a kind's number, where it is one of the five
-pub free-kind : (n : ℕ) → n ≡ 0 → isLive (kindOf n) ≡ false
-unfolding kindOf
-free-kind n e = rw e
-
-pub live-kind : (n : ℕ) → (n ≡ 0 → ⊥) → n ≤ 4 → isLive (kindOf n) ≡ true
-unfolding kindOf
-live-kind n ne h = go (case (eqb n 1)) (case (eqb n 2)) (case (eqb n 3)) (case (eqb n 4))
-  where
-    go : Case (eqb n 1) → Case (eqb n 2) → Case (eqb n 3) → Case (eqb n 4) → isLive (kindOf n) ≡ true
-    go (pass a) b c d = rw a
-    go (fail a) (pass b) c d = rw (a, b)
-    go (fail a) (fail b) (pass c) d = rw (a, b, c)
-    go (fail a) (fail b) (fail c) (pass d) = rw (a, b, c, d)
-    go (fail a) (fail b) (fail c) (fail d) = absurd (omega (arith, ne, h, eqb-false n 1 a, eqb-false n 2 b, eqb-false n 3 c, eqb-false n 4 d))

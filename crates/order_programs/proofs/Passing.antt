@@ -20,7 +20,8 @@ use Rattle.tables.proofs.KindLaws.{live-taken, live-child, live-recall}
 use Rattle.image.specs.Numbers.{numberAt}
 use Rattle.image.specs.Image.{kindOf, ticketStart, kindsOk}
 use Rattle.image_read.specs.Places.{ticketsIn, lastsIn}
-use Rattle.image_read.proofs.Places.{tickets-long, kind-here, free-kind, live-kind}
+use Rattle.image.proofs.KindNumbers.{free-kind, live-kind}
+use Rattle.image_read.proofs.Places.{tickets-long, kind-here}
 use Rattle.image_places.specs.Places.{nameAt, Flattened}
 use Rattle.order_lists.specs.Listing.{Listing}
 use Rattle.order_lists.proofs.Turns.{listed-none, listed-turn, listed-past, listed-to}

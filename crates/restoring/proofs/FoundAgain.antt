@@ -30,9 +30,10 @@ use Rattle.saved.specs.declared.Row.{Row}
 use Rattle.saved.specs.Row.{isEntryRow, key}
 use Rattle.saved.specs.Save.{ticketRow, entryRow, rowsFound, rowsOf}
 use Rattle.saved.specs.Load.{ticketOfProgram, ticketFrom, entryFrom, programFrom, tablesWith}
-use Rattle.saved_laws.proofs.LoadedIsSaved.{few-tickets, few-entries, ticket-is}
-use Rattle.saved_laws.proofs.Assembly.{ticket-kind, is-ticket, last-no-ticket, last-no-entry, ticket-no-entry, none-counted, no-entries}
-use Rattle.saved_laws.proofs.TablesOfLines.{program-at, with-sized}
+use Rattle.saved_laws.proofs.Room.{few-tickets, few-entries}
+use Rattle.saved_laws.proofs.Assembly.{none-counted, no-entries}
+use Rattle.saved.proofs.TablesOfLines.{program-at, with-sized}
+use Rattle.saved.proofs.RowLaws.{last-no-ticket, last-no-entry, ticket-no-entry, ticket-kind, ticket-is, is-ticket}
 use Rattle.restoring.proofs.RowsInForm.{rowBy, Good, TicketLine, EntryLine, Line, last, ticket, entry, line-out, ticket-in, entry-in, ticket-named, entry-named}
 use Rattle.restoring.proofs.RowsFollow.{row-is-ticket, row-pad, row-program, row-is-entry, lasts-kind, tickets-kind, entries-kind, rows-rising, rows-follow}
 

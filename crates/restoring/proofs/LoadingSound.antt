@@ -19,7 +19,7 @@ use Rattle.machine.specs.Refusal.{_when_else_}
 use Rattle.saved.specs.Row.{rowOf, lineOk}
 use Rattle.saved.specs.Load.{linesIn, rowsIn, formOk, noRow, lastOfProgram, tablesFrom, lastIn, tablesIn, loadRefusal, load}
 use Rattle.saved.specs.Claims.{Sound, LoadingIsSound}
-use Rattle.saved_laws.proofs.TablesOfLines.{with-sized, with-last}
+use Rattle.saved.proofs.TablesOfLines.{with-sized, with-last}
 
 -- ---- numbers
 values-fit : (fs : List (List ℕ)) → all isValue fs ≡ true → (i : ℕ) → getD (map number fs) i 0 ≤ 65535

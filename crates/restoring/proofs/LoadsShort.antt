@@ -5,7 +5,7 @@ use mathlib.Core.List.{List}
 use lib.ListN.{length}
 use Rattle.saved.specs.Save.{savedRoom}
 use Rattle.saved.specs.Load.{load}
-use Rattle.saved_laws.proofs.Whole.{loaded-is-saved}
+use Rattle.saved_laws.proofs.LoadedIsSaved.{loaded-is-saved}
 use Rattle.restoring.proofs.SavedShort.{saved-short}
 use Rattle.restoring.proofs.LoadingSound.{loading-is-sound}
 

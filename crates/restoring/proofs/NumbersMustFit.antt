@@ -18,7 +18,7 @@ use Rattle.text.specs.Writing.{digits, places, decimal, behind, valuesLine}
 use Rattle.saved.specs.Row.{columnNames, zeroUnless, ownOk, otherOk, sheetsOk, rowOk, lineOk, key}
 use Rattle.saved.specs.Save.{programs, lastRow, ticketRows, rowsFound, rowsOf, textOf, saved}
 use Rattle.saved.specs.Load.{isEnded, formOk, programFrom, tablesWith, loadRefusal, load}
-use Rattle.saved_laws.proofs.TablesOfLines.{with-sized}
+use Rattle.saved.proofs.TablesOfLines.{with-sized}
 
 unfoldable pub large : Tables
 large = tablesWith (λ n. n) (λ pad program. cond (sameProgram pad program 0 0) 65536 0) []

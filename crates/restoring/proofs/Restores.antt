@@ -27,8 +27,8 @@ use Rattle.saved.specs.Row.{key}
 use Rattle.saved.specs.Save.{lastRow, rowsFound, rowsOf, saved}
 use Rattle.saved.specs.Load.{rowsIn, lastOfProgram, formOk, noRow, tablesWith, tablesFrom, lastIn, tablesIn, loadRefusal, load}
 use Rattle.saved.specs.Claims.{LoadingRestores}
-use Rattle.saved_laws.proofs.Assembly.{is-last}
-use Rattle.saved_laws.proofs.TablesOfLines.{with-sized, with-last}
+use Rattle.saved.proofs.TablesOfLines.{with-sized, with-last}
+use Rattle.saved.proofs.RowLaws.{is-last}
 use Rattle.restoring.proofs.RowsOfText.{AllWritable, rows-of-text, text-in-form}
 use Rattle.restoring.proofs.RowsInForm.{Good, good-of, LastLine, last-in, line-form, writable}
 use Rattle.restoring.proofs.RowsFollow.{row-is-last, last-at, rows-follow, programs-present, last-of, last-place}

@@ -30,8 +30,8 @@ use Rattle.saved.specs.declared.Row.{Row}
 use Rattle.saved.specs.Row.{isLastRow, isTicketRow, isEntryRow, key}
 use Rattle.saved.specs.Save.{programs, lastRow, ticketRow, ticketRows, entryRow, rowsFound, rowsOf}
 use Rattle.saved.specs.Load.{noRow, above, lastOfProgram, ticketOfProgram, hasRoom, mayFollow, allFollow, allPrograms}
-use Rattle.saved_laws.proofs.LoadedIsSaved.{ticket-is}
-use Rattle.saved_laws.proofs.Assembly.{listed, same-program, programs-once, ticket-kind, is-ticket, is-last, last-is, last-kind, last-no-ticket, last-no-entry, ticket-no-entry, ranges, three-kinds}
+use Rattle.saved.proofs.RowLaws.{ranges, three-kinds, last-no-ticket, last-no-entry, ticket-no-entry, last-kind, last-is, is-last, ticket-kind, ticket-is, is-ticket}
+use Rattle.saved_laws.proofs.Assembly.{listed, same-program, programs-once}
 use Rattle.restoring.proofs.RowsInForm.{InForm, Good, LastLine, TicketLine, EntryLine, lastLines, ticketLines, entryLines, last-out, ticket-out, entry-out, Line, last, ticket, entry, line-out, lasts-found, tickets-found, entries-found, last-in, found-in, ticket-in, entry-in, line-form}
 
 -- ---- "Lines stand by kind, pad, program, number": a key has these as digits

@@ -34,7 +34,8 @@ use Rattle.saved.specs.declared.Row.{Row}
 use Rattle.saved.specs.Row.{columnsOf, zeroUnless, ownOk, otherOk, sheetsOk, rowOk}
 use Rattle.saved.specs.Save.{programs, lastRow, ticketRow, ticketRows, entryRow, rowsFound}
 use Rattle.saved.specs.Claims.{NumbersFit}
-use Rattle.saved_laws.proofs.Assembly.{listed, in-list, ranges}
+use Rattle.saved.proofs.RowLaws.{ranges}
+use Rattle.saved_laws.proofs.Assembly.{listed, in-list}
 use Rattle.restoring.proofs.RowsOfText.{Writable}
 
 -- ---- a row in form whose values have 16 bits, and sheets and rights that a grant can have

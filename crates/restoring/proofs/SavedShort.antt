@@ -23,7 +23,8 @@ use Rattle.saved.specs.declared.Row.{Row}
 use Rattle.saved.specs.Row.{columnNames, columnsOf, zeroUnless, ownOk, sheetsOk, rowOk, key}
 use Rattle.saved.specs.Save.{programs, lastRow, ticketRows, entryRow, rowsFound, rowsOf, textOf, saved, savedRoom}
 use Rattle.saved.specs.Claims.{SavedShort}
-use Rattle.saved_laws.proofs.Assembly.{listed, ranges}
+use Rattle.saved.proofs.RowLaws.{ranges}
+use Rattle.saved_laws.proofs.Assembly.{listed}
 use Rattle.restoring.proofs.RowsFollow.{part-few}
 use Rattle.restoring.proofs.RowsInForm.{InForm, other-ranges, Good, good-of, lastLines, ticketLines, entryLines, last-out, tickets-found, entries-found, line-form}
 

@@ -21,13 +21,15 @@ use Rattle.tables.specs.Kinds.{isLive}
 use Rattle.tables.specs.Names.{noName, isNone, isProgram, sameProgram, free, noEntry}
 use Rattle.tables.specs.Lookup.{ticketsOf, lastOf}
 use Rattle.image.specs.Image.{kindOf}
+use Rattle.image.proofs.KindNumbers.{live-kind}
 use Rattle.saved.specs.declared.Row.{Row}
 use Rattle.saved.specs.Row.{isLastRow, isTicketRow, isEntryRow, ofProgram, rowOk, key}
 use Rattle.saved.specs.Save.{programs, lastRow, ticketRow, ticketRows, entryRow, rowsFound, rowsOf}
 use Rattle.saved.specs.Load.{lastOfProgram, ticketOfProgram, allFollow, allPrograms, noRow, ticketFrom, entryFrom, programFrom, tablesWith, lastIn}
 use Rattle.saved_laws.proofs.RowsBack.{rows-rise, four, ticket-back, entry-row-back, last-row-back}
-use Rattle.saved_laws.proofs.TablesOfLines.{program-at, with-last}
-use Rattle.saved_laws.proofs.LoadedIsSaved.{few-tickets, few-entries, one-last, ticket-is}
+use Rattle.saved.proofs.TablesOfLines.{program-at, with-last}
+use Rattle.saved.proofs.RowLaws.{Ranges, ranges, three-kinds, last-no-ticket, last-no-entry, ticket-no-entry, last-kind, last-is, is-last, ticket-kind, ticket-is, is-ticket}
+use Rattle.saved_laws.proofs.Room.{few-tickets, few-entries, one-last}
 
 -- ---- programs
 pub listed : (i : ℕ) → In i programs → i < 32
@@ -46,81 +48,9 @@ pub same-program : (i j : ℕ) → i / 8 ≡ j / 8 → i % 8 ≡ j % 8 → i ≡
 same-program i j a b = omega (arith, a, b)
 
 -- ---- kinds
-live-kind : (k : ℕ) → 1 ≤ k → k ≤ 4 → isLive (kindOf k) ≡ true
-unfolding kindOf
-live-kind k a b = go (four k a b)
-  where
-    go : (k ≡ 1) ⊎ ((k ≡ 2) ⊎ ((k ≡ 3) ⊎ (k ≡ 4))) → isLive (kindOf k) ≡ true
-    go (inl e) = rw e
-    go (inr (inl e)) = rw e
-    go (inr (inr (inl e))) = rw e
-    go (inr (inr (inr e))) = rw e
-
-pub ticket-kind : (p q : ℕ) (r : Row) → ticketOfProgram p q r ≡ true → isTicketRow r ≡ true
-unfolding ticketOfProgram
-ticket-kind p q r t = and-l (isTicketRow r) (ofProgram p q r) t
-
 ticket-live : (docks : Name → Name) (r : Row) → isTicketRow r ≡ true → isLive (ticketFrom docks r .kind) ≡ true
 unfolding ticketFrom isTicketRow
-ticket-live docks r t = live-kind (r .kind) (between-low 1 4 (r .kind) t) (between-high 1 4 (r .kind) t)
-
-pub last-kind : (p q : ℕ) (r : Row) → lastOfProgram p q r ≡ true → isLastRow r ≡ true
-unfolding lastOfProgram
-last-kind p q r e = and-l (isLastRow r) (ofProgram p q r) e
-
-pub last-is : (p q : ℕ) (r : Row) → lastOfProgram p q r ≡ true → (r .pad ≡ p) × (r .program ≡ q)
-unfolding lastOfProgram ofProgram sameProgram
-last-is p q r e =
-    let a : eqb (r .pad) p ≡ true = search (and-l, and-r) depth 5 in
-    let b : eqb (r .program) q ≡ true = search (and-l, and-r) depth 5 in
-    (eqb-true (r .pad) p a, eqb-true (r .program) q b)
-
-pub is-last : (p q : ℕ) (r : Row) → isLastRow r ≡ true → r .pad ≡ p → r .program ≡ q → lastOfProgram p q r ≡ true
-unfolding lastOfProgram ofProgram sameProgram
-is-last p q r l a b = and-intro l (and-intro (eq-eqb (r .pad) p a) (eq-eqb (r .program) q b))
-
-pub is-ticket : (p q : ℕ) (r : Row) → isTicketRow r ≡ true → r .pad ≡ p → r .program ≡ q → ticketOfProgram p q r ≡ true
-unfolding ticketOfProgram ofProgram sameProgram
-is-ticket p q r l a b = and-intro l (and-intro (eq-eqb (r .pad) p a) (eq-eqb (r .program) q b))
-
--- the kinds exclude each other
-pub last-no-ticket : (r : Row) → isLastRow r ≡ true → isTicketRow r ≡ true → ⊥
-unfolding isLastRow isTicketRow
-last-no-ticket r l t = omega (arith, eqb-true (r .kind) 0 l, between-low 1 4 (r .kind) t)
-
-pub last-no-entry : (r : Row) → isLastRow r ≡ true → isEntryRow r ≡ true → ⊥
-unfolding isLastRow isEntryRow
-last-no-entry r l t = omega (arith, eqb-true (r .kind) 0 l, eqb-true (r .kind) 5 t)
-
-pub ticket-no-entry : (r : Row) → isTicketRow r ≡ true → isEntryRow r ≡ true → ⊥
-unfolding isTicketRow isEntryRow
-ticket-no-entry r l t = omega (arith, eqb-true (r .kind) 5 t, between-high 1 4 (r .kind) l)
-
-pub record Ranges (r : Row) : Type 0 where
-  pub kind : r .kind ≤ 5
-  pub pad : r .pad ≤ 3
-  pub program : r .program ≤ 7
-
-pub ranges : (r : Row) → rowOk r ≡ true → Ranges r
-unfolding rowOk isProgram
-ranges r e =
-    let k : leb (r .kind) 5 ≡ true = search (and-l, and-r) depth 8 in
-    let p : leb (r .pad) 3 ≡ true = search (and-l, and-r) depth 8 in
-    let q : leb (r .program) 7 ≡ true = search (and-l, and-r) depth 8 in
-    record { kind = leb-true (r .kind) 5 k; pad = leb-true (r .pad) 3 p; program = leb-true (r .program) 7 q }
-
-pub three-kinds : (r : Row) → rowOk r ≡ true → (isLastRow r ≡ true) ⊎ ((isTicketRow r ≡ true) ⊎ (isEntryRow r ≡ true))
-unfolding isLastRow isTicketRow isEntryRow
-three-kinds r o = go (case (eqb (r .kind) 0)) (case (eqb (r .kind) 5))
-  where
-    k : r .kind ≤ 5
-    k = ranges r o .kind
-
-    go : Case (eqb (r .kind) 0) → Case (eqb (r .kind) 5) → (eqb (r .kind) 0 ≡ true) ⊎ ((between 1 4 (r .kind) ≡ true) ⊎ (eqb (r .kind) 5 ≡ true))
-    go (pass e) _ = inl e
-    go (fail e) (pass f) = inr (inr f)
-    go (fail e) (fail f) =
-        inr (inl (between-test 1 4 (r .kind) (omega (arith, eqb-false (r .kind) 0 e)) (omega (arith, k, eqb-false (r .kind) 5 f))))
+ticket-live docks r t = live-kind (r .kind) (λ z. omega (arith, z, between-low 1 4 (r .kind) t)) (between-high 1 4 (r .kind) t)
 
 pub none-counted : (p q : ℕ) → countOf (ticketOfProgram p q) [] ≤ 8
 unfolding countOf

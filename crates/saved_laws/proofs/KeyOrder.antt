@@ -8,7 +8,7 @@ use borrow.Author.Tests.{ltb-true, ltb-false, lt-ltb, le-ltb, eqb-true, eqb-fals
 use Rattle.lists.proofs.Tests.{Case, pass, fail, case}
 use Rattle.saved.specs.declared.Row.{Row}
 use Rattle.saved.specs.Row.{rowOk, key}
-use Rattle.saved_laws.proofs.Assembly.{Ranges, ranges}
+use Rattle.saved.proofs.RowLaws.{Ranges, ranges}
 
 -- by the first column in which they differ
 unfoldable pub standsBefore : Row → Row → Bool

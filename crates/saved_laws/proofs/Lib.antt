@@ -1,7 +1,6 @@
 pub mod TextOfRows
 pub mod RowsBack
-pub mod LoadedIsSaved
-pub mod TablesOfLines
+pub mod Room
 pub mod Assembly
 pub mod KeyOrder
-pub mod Whole
+pub mod LoadedIsSaved

@@ -1,107 +1,95 @@
--- Lines that may follow each other have at most eight tickets of a program, at most 256 entries and one kind 0 line of each program.
-use Prim.Native.Nat.{ℕ, suc, _+_, _≤_, _<_}
+-- "any text that loads is what saving would write"
+use Prim.Native.Nat.{ℕ, suc, _≤_}
 use native.Mathlib.Omega.{arith}
-use mathlib.Core.Path.{_≡_, sym, _∙_, subst}
-use mathlib.Core.Bool.{true, false, cond}
-use mathlib.Core.List.{List, [], _∷_}
-use lib.Dec.{leb, eqb}
-use borrow.Author.Tests.{leb-true, ltb-true, eqb-true, ne-eqb, not-true}
-use Rattle.lists.specs.Tests.{between}
-use Rattle.lists.specs.Lists.{countOf}
-use Rattle.lists.specs.Members.{In, first, later}
-use Rattle.lists.proofs.Tests.{Case, pass, fail, case, contradiction, and-l, and-r}
-use Rattle.lists.proofs.MemberLaws.{some-in}
-use Rattle.tables.specs.Names.{sameProgram}
+use mathlib.Core.Path.{_≡_, refl, ap, _∙_}
+use mathlib.Core.Bool.{true, _&&_, cond}
+use mathlib.Core.List.{List, [], map}
+use lib.ListN.{length, length-map}
+use Rattle.lists.specs.Tests.{implies}
+use Rattle.lists.specs.Lists.{all, keep, filled}
+use Rattle.lists.specs.Members.{In}
+use Rattle.lists.proofs.Tests.{Case, pass, fail, case, and-l, and-r, implies-elim}
+use Rattle.lists.proofs.MemberLaws.{in-keep, all-in, mapped, in-map}
+use Rattle.lists.proofs.Counts.{keep-long}
+use Rattle.lists.proofs.Filled.{all-filled}
+use Rattle.tables.specs.declared.{Name.Name, Ticket.Ticket, Entry.Entry, Tables.Tables}
+use Rattle.tables.specs.Kinds.{isTaken, isReceived}
+use Rattle.tables.specs.Lookup.{lookup}
+use Rattle.tables.specs.Names.{noName, eqName, isNone, noEntry}
+use Rattle.tables.specs.Chains.{chainHead}
+use Rattle.tables.specs.Order.{everyEntry, underStore, grantOk, entryOk, t5, inOrder}
+use Rattle.tables.proofs.NameLaws.{eqName-true}
+use Rattle.machine.specs.Refusal.{_when_else_}
+use Rattle.text.specs.Reading.{hasValues, valuesOf}
 use Rattle.saved.specs.declared.Row.{Row}
-use Rattle.saved.specs.Row.{isLastRow, isTicketRow, isEntryRow, ofProgram}
-use Rattle.saved.specs.Load.{above, lastOfProgram, ticketOfProgram, hasRoom, mayFollow, allFollow}
+use Rattle.saved.specs.Row.{columns, isEntryRow, rowOf, rowOk, lineOk}
+use Rattle.saved.specs.Save.{textOf, saved}
+use Rattle.saved.specs.Load.{linesIn, rowsIn, allFollow, allPrograms, formOk, entryFrom, tablesWith, tablesFrom, lastIn, tablesIn, loadRefusal, load}
+use Rattle.saved.specs.Claims.{LoadedIsSaved}
+use Rattle.saved_laws.proofs.Room.{few-entries}
+use Rattle.saved_laws.proofs.Assembly.{no-entries, rows-back}
+use Rattle.saved_laws.proofs.TextOfRows.{text-of-rows}
 
-pub ticket-is : (p q : ℕ) (r : Row) → ticketOfProgram p q r ≡ true → (r .pad ≡ p) × (r .program ≡ q)
-unfolding ticketOfProgram ofProgram sameProgram
-ticket-is p q r e =
-    let a : eqb (r .pad) p ≡ true = search (and-l, and-r) depth 5 in
-    let b : eqb (r .program) q ≡ true = search (and-l, and-r) depth 5 in
-    (eqb-true (r .pad) p a, eqb-true (r .program) q b)
+-- a row of a text in form
+rows-ok : (ls : List (List ℕ)) → all lineOk ls ≡ true → (z : Row) → In z (map (λ line. rowOf (valuesOf line)) ls) → rowOk z ≡ true
+unfolding lineOk
+rows-ok ls e z m =
+    let w = mapped (λ line. rowOf (valuesOf line)) z ls m in
+    ap rowOk (w .is) ∙ and-r (hasValues columns (w .from)) (rowOk (rowOf (valuesOf (w .from)))) (all-in lineOk ls (w .from) e (w .member))
 
-not-last : (p q : ℕ) (r : Row) → ticketOfProgram p q r ≡ true → isLastRow r ≡ false
-unfolding ticketOfProgram isTicketRow between isLastRow
-not-last p q r e =
-    let a : leb 1 (r .kind) ≡ true = search (and-l, and-r) depth 5 in
-    ne-eqb (r .kind) 0 (λ z. omega (arith, leb-true 1 (r .kind) a, z))
+-- in tables in order an entry's parent with number 0 is the store
+plain-grant : (e : Entry) (k : Ticket) → grantOk e k ≡ true → isNone (e .parent) ≡ true → e .parent ≡ noName
+unfolding grantOk
+plain-grant e k g n =
+    let c : cond (underStore e) (eqName (e .parent) noName && isTaken (k .kind)) (isReceived (k .kind)) ≡ true = search (and-l, and-r) depth 5 in
+    eqName-true (e .parent) noName (and-l (eqName (e .parent) noName) (isTaken (k .kind)) (rw n at c))
 
-not-entry : (p q : ℕ) (r : Row) → ticketOfProgram p q r ≡ true → isEntryRow r ≡ false
-unfolding ticketOfProgram isTicketRow between isEntryRow
-not-entry p q r e =
-    let a : leb (r .kind) 4 ≡ true = search (and-l, and-r) depth 5 in
-    ne-eqb (r .kind) 5 (λ z. omega (arith, leb-true (r .kind) 4 a, z))
+entries-ok : (t : Tables) → inOrder t ≡ true → all (λ e. implies (e .live) (entryOk t e)) (t .entries) ≡ true
+unfolding inOrder t5 everyEntry
+entries-ok t o = search (and-l, and-r) depth 8
 
-few-room : (p q : ℕ) (before : List Row) (r : Row) → mayFollow before r ≡ true → ticketOfProgram p q r ≡ true → countOf (ticketOfProgram p q) before < 8
-unfolding mayFollow hasRoom
-few-room p q before r m t =
-    let h = rw (not-last p q r t, not-entry p q r t) at (and-r (above before r) (hasRoom before r) m) in
-    let w = ticket-is p q r t in
-    subst (λ (a : ℕ). countOf (ticketOfProgram a q) before < 8) (w .0)
-    (subst (λ (b : ℕ). countOf (ticketOfProgram (r .pad) b) before < 8) (w .1) (ltb-true _ 8 h))
+entry-plain : (t : Tables) (e : Entry) → e .live ≡ true → implies (e .live) (entryOk t e) ≡ true → isNone (e .parent) ≡ true → e .parent ≡ noName
+unfolding entryOk
+entry-plain t e l h n =
+    let o = implies-elim (e .live) (entryOk t e) h l in
+    let g : grantOk e (lookup t (e .name)) ≡ true = search (and-l, and-r) depth 4 in
+    plain-grant e (lookup t (e .name)) g n
 
-pub few-tickets : (p q : ℕ) (before rs : List Row) → allFollow before rs ≡ true → countOf (ticketOfProgram p q) before ≤ 8
-    → countOf (ticketOfProgram p q) before + countOf (ticketOfProgram p q) rs ≤ 8
-unfolding allFollow countOf
-few-tickets p q before [] e h = omega (arith, h)
-few-tickets p q before (r ∷ rs) e h =
-    go (few-tickets p q (r ∷ before) rs (and-r (mayFollow before r) (allFollow (r ∷ before) rs) e)) (and-l (mayFollow before r) (allFollow (r ∷ before) rs) e)
-    (case (ticketOfProgram p q r))
+plain-of : (docks : Name → Name) (rows : List Row) → allFollow [] rows ≡ true → inOrder (tablesWith docks (lastIn rows) rows) ≡ true
+    → (z : Row) → In z rows → isEntryRow z ≡ true → isNone (z .other) ≡ true → z .other ≡ noName
+unfolding tablesWith entryFrom
+plain-of docks rows follow o z m t n =
+    let tables = tablesWith docks (lastIn rows) rows in
+    let a : all (λ e. implies (e .live) (entryOk tables e)) (filled 256 noEntry (map entryFrom (keep isEntryRow rows))) ≡ true = entries-ok tables o in
+    let b = all-filled (λ e. implies (e .live) (entryOk tables e)) 256 noEntry (map entryFrom (keep isEntryRow rows)) few a in
+    let c = all-in (λ e. implies (e .live) (entryOk tables e)) (map entryFrom (keep isEntryRow rows)) (entryFrom z) b
+    (in-map entryFrom z (keep isEntryRow rows) (in-keep isEntryRow z rows m t)) in
+    entry-plain tables (entryFrom z) refl c n
   where
-    room : mayFollow before r ≡ true → ticketOfProgram p q r ≡ true → countOf (ticketOfProgram p q) before < 8
-    room m t = few-room p q before r m t
+    few : length (map entryFrom (keep isEntryRow rows)) ≤ 256
+    few = omega (arith, length-map (keep isEntryRow rows) entryFrom, keep-long isEntryRow rows, few-entries [] rows follow no-entries)
 
-    go : (countOf (ticketOfProgram p q) (r ∷ before) ≤ 8 → countOf (ticketOfProgram p q) (r ∷ before) + countOf (ticketOfProgram p q) rs ≤ 8)
-        → mayFollow before r ≡ true → Case (ticketOfProgram p q r)
-        → countOf (ticketOfProgram p q) before + cond (ticketOfProgram p q r) (suc (countOf (ticketOfProgram p q) rs)) (countOf (ticketOfProgram p q) rs) ≤ 8
-    go ih m (pass t) = let k = room m t in let i = (rw t at ih) (omega (arith, k)) in rw t (omega (arith, i))
-    go ih m (fail t) = rw t ((rw t at ih) h)
+parts : (text : List ℕ) → formOk text ≡ true → (all lineOk (linesIn text) ≡ true) × ((allFollow [] (rowsIn text) ≡ true) × (allPrograms (rowsIn text) ≡ true))
+unfolding formOk
+parts text f = (search (and-l, and-r) depth 6, (search (and-l, and-r) depth 6, search (and-l, and-r) depth 6))
 
-entry-not-last : (r : Row) → isEntryRow r ≡ true → isLastRow r ≡ false
-unfolding isEntryRow isLastRow
-entry-not-last r t = ne-eqb (r .kind) 0 (λ z. omega (arith, eqb-true (r .kind) 5 t, z))
+saved-back : (text : List ℕ) → formOk text ≡ true → inOrder (tablesIn text) ≡ true → saved (tablesIn text) ≡ text
+unfolding saved tablesIn tablesFrom
+saved-back text f o =
+    let a : all lineOk (linesIn text) ≡ true = parts text f .0 in
+    let b : allFollow [] (rowsIn text) ≡ true = parts text f .1 .0 in
+    let c : allPrograms (rowsIn text) ≡ true = parts text f .1 .1 in
+    let docks : Name → Name = chainHead (tablesWith (λ n. n) (lastIn (rowsIn text)) (rowsIn text)) in
+    ap textOf (rows-back docks (rowsIn text) (rows-ok (linesIn text) a) b c (plain-of docks (rowsIn text) b o)) ∙ text-of-rows text f
 
-entry-room : (before : List Row) (r : Row) → mayFollow before r ≡ true → isEntryRow r ≡ true → countOf isEntryRow before < 256
-unfolding mayFollow hasRoom
-entry-room before r m t = ltb-true _ 256 (rw (entry-not-last r t, t) at (and-r (above before r) (hasRoom before r) m))
+no-zero : {A : Type 0} {n : ℕ} → suc n ≡ 0 → A
+no-zero e = absurd (omega (arith, e))
 
-none-before : (before : List Row) (y b : Row) → mayFollow before y ≡ true → isLastRow y ≡ true → In b before → lastOfProgram (y .pad) (y .program) b ≡ true → ⊥
-unfolding mayFollow hasRoom
-none-before before y b m l k t =
-    let h = rw l at (and-r (above before y) (hasRoom before y) m) in
-    contradiction (some-in (lastOfProgram (y .pad) (y .program)) before b k t) (not-true _ h)
-
-pub few-entries : (before rs : List Row) → allFollow before rs ≡ true → countOf isEntryRow before ≤ 256 → countOf isEntryRow before + countOf isEntryRow rs ≤ 256
-unfolding allFollow countOf
-few-entries before [] e h = omega (arith, h)
-few-entries before (r ∷ rs) e h =
-    go (few-entries (r ∷ before) rs (and-r (mayFollow before r) (allFollow (r ∷ before) rs) e)) (and-l (mayFollow before r) (allFollow (r ∷ before) rs) e)
-    (case (isEntryRow r))
+pub loaded-is-saved : LoadedIsSaved
+unfolding load loadRefusal _when_else_
+loaded-is-saved text e = go (case (formOk text)) (case (inOrder (tablesIn text)))
   where
-    go : (countOf isEntryRow (r ∷ before) ≤ 256 → countOf isEntryRow (r ∷ before) + countOf isEntryRow rs ≤ 256) → mayFollow before r ≡ true → Case (isEntryRow r)
-        → countOf isEntryRow before + cond (isEntryRow r) (suc (countOf isEntryRow rs)) (countOf isEntryRow rs) ≤ 256
-    go ih m (pass t) = let k = entry-room before r m t in let i = (rw t at ih) (omega (arith, k)) in rw t (omega (arith, i))
-    go ih m (fail t) = rw t ((rw t at ih) h)
-
--- a kind 0 line finds none of its program before it
-no-second : (before rs : List Row) → allFollow before rs ≡ true → (y b : Row) → In y rs → isLastRow y ≡ true → In b before
-    → lastOfProgram (y .pad) (y .program) b ≡ true → ⊥
-unfolding allFollow
-no-second before (r ∷ rs) e y b (first q) l k t =
-    none-before before y b (subst (λ (z : Row). mayFollow before z ≡ true) (sym q) (and-l (mayFollow before r) (allFollow (r ∷ before) rs) e)) l k t
-no-second before (r ∷ rs) e y b (later m) l k t =
-    no-second (r ∷ before) rs (and-r (mayFollow before r) (allFollow (r ∷ before) rs) e) y b m l (later k) t
-
-pub one-last : (before rs : List Row) → allFollow before rs ≡ true → (x y : Row) → In x rs → In y rs → isLastRow x ≡ true → isLastRow y ≡ true
-    → lastOfProgram (y .pad) (y .program) x ≡ true → lastOfProgram (x .pad) (x .program) y ≡ true → x ≡ y
-unfolding allFollow
-one-last before (r ∷ rs) e x y (first a) (first b) l n s t = a ∙ sym b
-one-last before (r ∷ rs) e x y (first a) (later b) l n s t =
-    absurd (no-second (r ∷ before) rs (and-r (mayFollow before r) (allFollow (r ∷ before) rs) e) y x b n (first a) s)
-one-last before (r ∷ rs) e x y (later a) (first b) l n s t =
-    absurd (no-second (r ∷ before) rs (and-r (mayFollow before r) (allFollow (r ∷ before) rs) e) x y a l (first b) t)
-one-last before (r ∷ rs) e x y (later a) (later b) l n s t =
-    one-last (r ∷ before) rs (and-r (mayFollow before r) (allFollow (r ∷ before) rs) e) x y a b l n s t
+    go : Case (formOk text) → Case (inOrder (tablesIn text)) → saved (load text .tables) ≡ text
+    go (fail f) _ = no-zero (rw f at e)
+    go (pass f) (fail o) = no-zero (rw (f, o) at e)
+    go (pass f) (pass o) = rw (f, o) (saved-back text f o)

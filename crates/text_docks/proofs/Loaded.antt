@@ -10,7 +10,7 @@ use borrow.Author.Tests.{leb-true, eqb-true, eqb-false}
 use Rattle.lists.specs.Tests.{between}
 use Rattle.lists.specs.Lists.{keep, filled}
 use Rattle.lists.specs.Members.{In, first, later}
-use Rattle.lists.proofs.Tests.{Case, pass, fail, case, and-l, and-r}
+use Rattle.lists.proofs.Tests.{Case, pass, fail, case, between-low, between-high}
 use Rattle.lists.proofs.MemberLaws.{kept}
 use Rattle.lists.proofs.Growing.{filled-at}
 use Rattle.tables.specs.declared.{Name.Name, Ticket.Ticket, Program.Program, Tables.Tables}
@@ -19,6 +19,7 @@ use Rattle.tables.specs.Names.{nameOf, free}
 use Rattle.tables.specs.Lookup.{ticketsOf, lastOf}
 use Rattle.tables.specs.Chains.{chainHead}
 use Rattle.image.specs.Image.{decode, kindOf}
+use Rattle.image.proofs.KindNumbers.{grant-kind, recall-kind}
 use Rattle.image_places.specs.Places.{placed, nameAt, Flattened}
 use Rattle.image_read.specs.Places.{ticketsIn, lastsIn, entriesIn}
 use Rattle.image_read.proofs.Places.{tickets-long, lasts-long, entries-decoded}
@@ -33,23 +34,9 @@ use Rattle.saved.proofs.TablesOfLines.{with-tickets, with-sized, with-last}
 use Rattle.text_docks.specs.Docks.{withDock, dockedAt, Docked}
 
 -- ---- one line
-grant-kind : (k : ℕ) → 1 ≤ k → k ≤ 4 → eqb k 4 ≡ false → isGrant (kindOf k) ≡ true
-unfolding kindOf
-grant-kind k low high e = go (case (eqb k 1)) (case (eqb k 2)) (case (eqb k 3))
-  where
-    go : Case (eqb k 1) → Case (eqb k 2) → Case (eqb k 3) → isGrant (kindOf k) ≡ true
-    go (pass a) _ _ = rw a
-    go (fail a) (pass b) _ = rw (a, b)
-    go (fail a) (fail b) (pass c) = rw (a, b, c)
-    go (fail a) (fail b) (fail c) = absurd (omega (arith, low, high, eqb-false k 1 a, eqb-false k 2 b, eqb-false k 3 c, eqb-false k 4 e))
-
-recall-kind : (k : ℕ) → k ≡ 4 → isGrant (kindOf k) ≡ false
-unfolding kindOf
-recall-kind k e = ap (λ (n : ℕ). isGrant (kindOf n)) e
-
 docked-line : (t : Tables) (p : ℕ) (r : Row) → isTicketRow r ≡ true → r .pad ≡ p / 64 → r .program ≡ p / 8 % 8
     → dockedAt t p (ticketFrom (λ n. n) r) ≡ ticketFrom (chainHead t) r
-unfolding dockedAt ticketFrom isTicketRow between
+unfolding dockedAt ticketFrom isTicketRow
 docked-line t p r k a b = go (case (eqb (r .kind) 4))
   where
     name : nameOf (p / 64) (p / 8 % 8) (r .number) ≡ nameIn r
@@ -59,8 +46,7 @@ docked-line t p r k a b = go (case (eqb (r .kind) 4))
     go (pass e) = rw (recall-kind (r .kind) (eqb-true (r .kind) 4 e), e)
     go (fail e) =
         rw (
-          grant-kind (r .kind) (leb-true 1 (r .kind) (and-l (leb 1 (r .kind)) (leb (r .kind) 4) k))
-              (leb-true (r .kind) 4 (and-r (leb 1 (r .kind)) (leb (r .kind) 4) k)) e,
+          grant-kind (r .kind) (between-low 1 4 (r .kind) k) (omega (arith, between-high 1 4 (r .kind) k, eqb-false (r .kind) 4 e)),
           e,
         )
         (ap (λ (n : Name). withDock (ticketFrom (λ m. m) r) (chainHead t n)) name)

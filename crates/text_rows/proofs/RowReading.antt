@@ -1,4 +1,4 @@
--- What is read from a line, in the two cases; and the bounds that make a key.
+-- What is read from a line, in the two cases.
 use Prim.Native.Nat.{ℕ, _≤_}
 use mathlib.Core.Path.{_≡_, refl, sym, ap, _∙_}
 use mathlib.Core.Bool.{Bool, true, false, _&&_}
@@ -27,16 +27,3 @@ is-line line e = rw e
 pub formed : (line v : List ℕ) → v ≡ valuesOf line → hasValues 11 line ≡ true → (b : Bool) → b ≡ rowOk (rowOf v)
     → ReadsRow line (record { ok = b; row = rowOf v })
 formed line v e h b q = record { ok = q ∙ ap (λ (l : List ℕ). rowOk (rowOf l)) e ∙ sym (is-line line h); row = λ t. ap rowOf e }
-
-pub record Small (r : Row) : Type 0 where
-  pub kind : r .kind ≤ 5
-  pub pad : r .pad ≤ 3
-  pub program : r .program ≤ 7
-
-pub small : (r : Row) → rowOk r ≡ true → Small r
-unfolding rowOk isProgram
-small r e =
-    let k : leb (r .kind) 5 ≡ true = search (and-l, and-r) depth 8 in
-    let p : leb (r .pad) 3 ≡ true = search (and-l, and-r) depth 8 in
-    let q : leb (r .program) 7 ≡ true = search (and-l, and-r) depth 8 in
-    record { kind = leb-true (r .kind) 5 k; pad = leb-true (r .pad) 3 p; program = leb-true (r .program) 7 q }

@@ -12,68 +12,52 @@ use Rattle.text_rows.proofs.read_row.Lts as lts
 use Rattle.text_rows.proofs.row_ok.Reads as row-ok-reads
 use Rattle.text.proofs.read_values.Reads as read-values-reads
 
--- src/lib.rt:121:42
 slice-aggregate-read-values : tie.Need-slice-aggregate-read-values
 slice-aggregate-read-values c = search needs
 
--- src/lib.rt:121:9
 read-values-requires : tie.Need-read-values-requires
 read-values-requires c κs = search needs
 
--- src/lib.rt:123:14
 array-read-t11 : tie.Need-array-read-t11
 array-read-t11 c = search needs
 
--- src/lib.rt:124:18
 array-read-t14 : tie.Need-array-read-t14
 array-read-t14 c = search needs
 
--- src/lib.rt:125:17
 array-read-t17 : tie.Need-array-read-t17
 array-read-t17 c = search needs
 
--- src/lib.rt:128:15
 array-read-t11-2 : tie.Need-array-read-t11-2
 array-read-t11-2 c = search needs
 
--- src/lib.rt:129:14
 array-read-t17-2 : tie.Need-array-read-t17-2
 array-read-t17-2 c = search needs
 
--- src/lib.rt:130:18
 array-read-t14-2 : tie.Need-array-read-t14-2
 array-read-t14-2 c = search needs
 
--- src/lib.rt:131:17
 array-read-t26 : tie.Need-array-read-t26
 array-read-t26 c = search needs
 
--- src/lib.rt:132:14
 array-read-t29 : tie.Need-array-read-t29
 array-read-t29 c = search needs
 
--- src/lib.rt:134:16
 array-read-t32 : tie.Need-array-read-t32
 array-read-t32 c = search needs
 
--- src/lib.rt:135:16
 array-read-t35 : tie.Need-array-read-t35
 array-read-t35 c = search needs
 
--- src/lib.rt:136:17
 array-read-t38 : tie.Need-array-read-t38
 array-read-t38 c = search needs
 
--- src/lib.rt:139:9
 returns : tie.Need-returns
 returns c =
     no-values (c .before .before .before .before .before .args .line .now) _ (sym (c .before .before .read-values .ensures .0) ∙ not-true _ (c .if1 .taken))
 
--- src/lib.rt:141:9
 row-ok-requires : tie.Need-row-ok-requires
 row-ok-requires c κs = search needs
 
--- src/lib.rt:117:1
 returns-2 : tie.Need-returns-2
 returns-2 c =
     let c3 = c .before .before .before in

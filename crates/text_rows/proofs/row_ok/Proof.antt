@@ -14,52 +14,41 @@ use Rattle.text_rows.proofs.other_ok.Reads as other-ok-reads
 use Rattle.text_rows.proofs.own_ok.Reads as own-ok-reads
 use Rattle.text_rows.proofs.sheets_ok.Reads as sheets-ok-reads
 
--- src/lib.rt:93:9
 returns : tie.Need-returns
 unfolding rowOk
 returns c = rw (lt-leb _ _ (c .if1 .taken))
 
--- src/lib.rt:95:9
 is-program-requires : tie.Need-is-program-requires
 is-program-requires c κs = search needs
 
--- src/lib.rt:96:9
 returns-2 : tie.Need-returns-2
 unfolding rowOk
 returns-2 c = rw (le-leb _ _ (c .before .before .if1 .left), sym (c .before .is-program .ensures) ∙ not-true _ (c .if2 .taken))
 
--- src/lib.rt:99:9
 is-program-requires-2 : tie.Need-is-program-requires-2
 is-program-requires-2 c κs = search needs
 
--- src/lib.rt:100:9
 returns-3 : tie.Need-returns-3
 unfolding rowOk
 returns-3 c = rw (le-leb _ _ (c .before .before .before .before .before .if1 .left), sym (c .before .before .before .before .is-program .ensures) ∙ not-false _ (c .before .before .before .if2 .left), sym (c .before .is-program2 .ensures) ∙ not-true _ (c .if3 .taken))
 
--- src/lib.rt:102:9
 own-ok-requires : tie.Need-own-ok-requires
 own-ok-requires c κs = search needs
 
--- src/lib.rt:103:9
 returns-4 : tie.Need-returns-4
 unfolding rowOk
 returns-4 c = rw (le-leb _ _ (c .before .before .before .before .before .before .before .if1 .left), sym (c .before .before .before .before .before .before .is-program .ensures) ∙ not-false _ (c .before .before .before .before .before .if2 .left), sym (c .before .before .before .is-program2 .ensures) ∙ not-false _ (c .before .before .if3 .left), sym (c .before .own-ok .ensures) ∙ not-true _ (c .if4 .taken))
 
--- src/lib.rt:105:9
 other-ok-requires : tie.Need-other-ok-requires
 other-ok-requires c κs = search needs
 
--- src/lib.rt:106:9
 returns-5 : tie.Need-returns-5
 unfolding rowOk
 returns-5 c = rw (le-leb _ _ (c .before .before .before .before .before .before .before .before .before .if1 .left), sym (c .before .before .before .before .before .before .before .before .is-program .ensures) ∙ not-false _ (c .before .before .before .before .before .before .before .if2 .left), sym (c .before .before .before .before .before .is-program2 .ensures) ∙ not-false _ (c .before .before .before .before .if3 .left), sym (c .before .before .before .own-ok .ensures) ∙ not-false _ (c .before .before .if4 .left), sym (c .before .other-ok .ensures) ∙ not-true _ (c .if5 .taken))
 
--- src/lib.rt:108:5
 sheets-ok-requires : tie.Need-sheets-ok-requires
 sheets-ok-requires c κs = search needs
 
--- src/lib.rt:89:1
 returns-6 : tie.Need-returns-6
 unfolding rowOk
 returns-6 c = rw (le-leb _ _ (c .before .before .before .before .before .before .before .before .before .before .if1 .left), sym (c .before .before .before .before .before .before .before .before .before .is-program .ensures) ∙ not-false _ (c .before .before .before .before .before .before .before .before .if2 .left), sym (c .before .before .before .before .before .before .is-program2 .ensures) ∙ not-false _ (c .before .before .before .before .before .if3 .left), sym (c .before .before .before .before .own-ok .ensures) ∙ not-false _ (c .before .before .before .if4 .left), sym (c .before .before .other-ok .ensures) ∙ not-false _ (c .before .if5 .left)) (c .sheets-ok .ensures)
