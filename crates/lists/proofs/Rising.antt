@@ -211,8 +211,11 @@ pub rising-map : {A B : Type 0} (f : A → ℕ) (g : B → ℕ) (row : A → B) 
     → ((x y : A) → In x l → In y l → f x < f y → g (row x) < g (row y)) → Rising f l → Rising g (map row l)
 rising-map f g row [] up r = empty
 rising-map {A} {B} f g row (x ∷ xs) up (rises low r) =
-    rises (λ z i. let m = mapped row z xs i in subst (λ (y : B). g (row x) < g y) (sym (m .is)) (up x (m .from) (first refl) (later (m .member)) (low (m .from) (m .member))))
+    rises (λ z i. let m = mapped row z xs i in subst (λ (y : B). g (row x) < g y) (sym (m .is)) (above (m .from) (m .member)))
     (rising-map f g row xs (λ a b i j. up a b (later i) (later j)) r)
+  where
+    above : (y : A) → In y xs → g (row x) < g (row y)
+    above y i = up x y (first refl) (later i) (low y i)
 
 -- the rows of the elements that count, no two of which are alike, have each its own key
 module _ {A B : Type 0} (counts : A → Bool) (alike : A → A → Bool) (row : A → B) (order : B → ℕ) where

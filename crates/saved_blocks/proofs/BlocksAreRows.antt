@@ -30,7 +30,8 @@ use Rattle.image.specs.Image.{kindNumber}
 use Rattle.saved.specs.declared.Row.{Row}
 use Rattle.saved.specs.Row.{key}
 use Rattle.saved.specs.Save.{lastRow, ticketRow, entryRow, rowsFound, rowsOf}
-use Rattle.restoring.proofs.RowsInForm.{Good, LastLine, TicketLine, EntryLine, Line, last, ticket, entry, line-out, last-in, ticket-in, entry-in, ticket-named, entry-named}
+use Rattle.restoring.proofs.RowsInForm.{Good, LastLine, TicketLine, EntryLine, Line, last, ticket, entry, line-out}
+use Rattle.restoring.proofs.RowsInForm.{last-in, ticket-in, entry-in, ticket-named, entry-named}
 use Rattle.restoring.proofs.RowsFollow.{row-pad, row-program, row-number, rows-apart}
 use Rattle.saved_blocks.specs.Blocks.{ofKind, hasEntry, ticketLine, entryLine, ticketLines, entryLines, blocks, block}
 use Rattle.saved_blocks.proofs.BlockLaws.{block-last, block-tickets, block-entries, kind-alive, entry-head, entry-alive}
@@ -235,7 +236,7 @@ module _ (t : Tables) (good : Good t) where
           let low = ltb-false m 32 a in
           let high = ltb-true m 160 b in
           subst (Fine m) (sym (block-tickets t m low high)) (tickets-fine m low high)
-      go (fail a) (fail b) = let low = ltb-false m 160 b in subst (Fine m) (sym (block-entries t m low)) (entries-fine m low h)
+      go (fail a) (fail b) = let low = ltb-false m 160 b in subst (Fine m) (sym (block-entries t m low)) (entries-fine m low (omega (arith, h)))
 
   -- ---- and each line that is found stands in a block
   abbrev whole : List Row

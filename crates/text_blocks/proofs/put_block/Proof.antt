@@ -29,7 +29,7 @@ put-tickets-requires : tie.Need-put-tickets-requires
 put-tickets-requires c κs =
     let c6 = c .before .before .before .before .before .before in
     let m = c6 .args .m in
-    let is = block-tickets (decode (c6 .args .image .now)) m (c .before .before .if1 .left) (c .before .if2 .taken) in
+    let is = block-tickets (decode (c6 .args .image .now)) m (c .before .before .if1 .left) (omega (arith, c .before .if2 .taken)) in
     (c6 .pre .0, ((omega arith, (omega (arith, c .before .before .if1 .left), omega (arith, c .before .if2 .taken))), block-room _ m _ is _ (c6 .pre .1 .1)))
 
 same-length-2 : tie.Need-same-length-2
@@ -41,14 +41,14 @@ returns-2 c =
     let c5 = c4 .before in
     let c9 = c5 .before .before .before .before in
     let m = c9 .args .m in
-    let is = block-tickets (decode (c9 .args .image .now)) m (c5 .if1 .left) (c4 .if2 .taken) in
+    let is = block-tickets (decode (c9 .args .image .now)) m (c5 .if1 .left) (omega (arith, c4 .if2 .taken)) in
     block-put _ m _ is _ _ _ _ (c .before .before .put-tickets .ensures)
 
 put-entries-requires : tie.Need-put-entries-requires
 put-entries-requires c κs =
     let c6 = c .before .before .before .before .before .before in
     let m = c6 .args .m in
-    let is = block-entries (decode (c6 .args .image .now)) m (c .before .if2 .left) in
+    let is = block-entries (decode (c6 .args .image .now)) m (omega (arith, c .before .if2 .left)) in
     (c6 .pre .0, ((c6 .pre .1 .0 .0, omega arith), block-room _ m _ is _ (c6 .pre .1 .1)))
 
 same-length-3 : tie.Need-same-length-3
@@ -59,7 +59,7 @@ returns-3 c =
     let c4 = c .before .before .before .before in
     let c9 = c4 .before .before .before .before .before in
     let m = c9 .args .m in
-    let is = block-entries (decode (c9 .args .image .now)) m (c4 .if2 .left) in
+    let is = block-entries (decode (c9 .args .image .now)) m (omega (arith, c4 .if2 .left)) in
     block-put _ m _ is _ _ _ _ (c .before .before .put-entries .ensures)
 
 pub put-block-spec : {M : Type 1} → statement M

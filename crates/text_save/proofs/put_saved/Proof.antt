@@ -28,7 +28,8 @@ returns c =
     let c6 = c .before .before .before .before .before .before in
     let c11 = c6 .before .before .before .before .before in
     let c12 = c11 .before in
-    put-whole (c12 .args .image .now) (c12 .pre) (λ i. omega (arith, c11 .shared-slice-known .given i)) _ _ _ (c6 .append .ensures) _ _ (c .before .before .put-rows .ensures)
+    put-whole (c12 .args .image .now) (c12 .pre) (λ i. omega (arith, c11 .shared-slice-known .given i)) _ _ _ (c6 .append .ensures) _ _
+    (c .before .before .put-rows .ensures)
 
 pub put-saved-spec : {M : Type 1} → statement M
 put-saved-spec = tie.close (tie.spec append-requires put-rows-requires same-length returns)

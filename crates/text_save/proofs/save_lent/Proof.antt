@@ -60,7 +60,8 @@ returns-4 c =
     let c11 = c8 .before .before .before in
     let a = c11 .args in
     let good = passed (tables-told (a .tables .now) (c7 .image-in-order .ensures)) (c6 .if2 .left) in
-    whole (saveBuffers (a .tables .now) (a .output .now)) (c8 .if1 .left) good (passed (c5 .fits2 .ensures) (c4 .if3 .left)) _ _ (c .before .before .put-saved .ensures)
+    let fits = passed (c5 .fits2 .ensures) (c4 .if3 .left) in
+    whole (saveBuffers (a .tables .now) (a .output .now)) (c8 .if1 .left) good fits _ _ (c .before .before .put-saved .ensures)
 
 pub save-lent-spec : {M : Type 1} → statement M
 save-lent-spec =
