@@ -1,3 +1,4 @@
 pub mod RowLaws
 pub mod WholeTexts
 pub mod TablesOfLines
+pub mod KeyOrder

@@ -1,8 +1,9 @@
 -- What is claimed of saving and loading: each is a statement, proved in saved_laws, restoring and loaded_isolation.
 use Prim.Native.Nat.{ℕ, _≤_, _<_}
 use mathlib.Core.Path.{_≡_}
-use mathlib.Core.Bool.{true}
+use mathlib.Core.Bool.{Bool, true, cond}
 use mathlib.Core.List.{List}
+use lib.Dec.{ltb, eqb}
 use lib.ListN.{length}
 use Rattle.tables.specs.declared.Tables.{Tables}
 use Rattle.tables.specs.Lookup.{Sized, lastOf}
@@ -11,9 +12,24 @@ use Rattle.tables.specs.Same.{SameTables}
 use Rattle.machine.specs.State.{State}
 use Rattle.machine.specs.Sequence.{Sent, Group}
 use Rattle.machine.specs.Isolation.{Isolated, Unlinked}
+use Rattle.saved.specs.declared.Row.{Row}
+use Rattle.saved.specs.Row.{rowOk, key}
 use Rattle.saved.specs.Save.{saved, savedRoom}
 use Rattle.saved.specs.Load.{load}
 
+-- ---- the order of lines
+-- "Lines stand by kind, pad, program, number": by the first column in which they differ
+unfoldable pub standsBefore : Row → Row → Bool
+standsBefore x y =
+    cond (eqb (x .kind) (y .kind))
+    (cond (eqb (x .pad) (y .pad)) (cond (eqb (x .program) (y .program)) (ltb (x .number) (y .number)) (ltb (x .program) (y .program))) (ltb (x .pad) (y .pad)))
+    (ltb (x .kind) (y .kind))
+
+-- of lines in form the order of keys is this one
+abbrev pub KeyOrder : Type 0
+KeyOrder = (x y : Row) → rowOk x ≡ true → rowOk y ≡ true → x .number ≤ 65535 → y .number ≤ 65535 → ltb (key x) (key y) ≡ standsBefore x y
+
+-- ---- there and back
 -- last numbers of 16 bits: "up to 65,535"
 abbrev pub NumbersFit : Tables → Type 0
 NumbersFit t = (pad program : ℕ) → pad < 4 → program < 8 → lastOf t pad program ≤ 65535

@@ -2,20 +2,14 @@
 use Prim.Native.Nat.{ℕ, _+_, _*_, _≤_}
 use native.Mathlib.Omega.{arith}
 use mathlib.Core.Path.{_≡_, sym, _∙_}
-use mathlib.Core.Bool.{Bool, true, cond}
+use mathlib.Core.Bool.{cond}
 use lib.Dec.{ltb, eqb}
 use borrow.Author.Tests.{ltb-true, ltb-false, lt-ltb, le-ltb, eqb-true, eqb-false}
 use Rattle.lists.proofs.Tests.{Case, pass, fail, case}
 use Rattle.saved.specs.declared.Row.{Row}
-use Rattle.saved.specs.Row.{rowOk, key}
+use Rattle.saved.specs.Row.{key}
+use Rattle.saved.specs.Claims.{standsBefore, KeyOrder}
 use Rattle.saved.proofs.RowLaws.{Ranges, ranges}
-
--- by the first column in which they differ
-unfoldable pub standsBefore : Row → Row → Bool
-standsBefore x y =
-    cond (eqb (x .kind) (y .kind))
-    (cond (eqb (x .pad) (y .pad)) (cond (eqb (x .program) (y .program)) (ltb (x .number) (y .number)) (ltb (x .program) (y .program))) (ltb (x .pad) (y .pad)))
-    (ltb (x .kind) (y .kind))
 
 -- two numbers of a higher part and a digit below w, at the three bases of a key
 module _ (a b m n : ℕ) where
@@ -47,7 +41,7 @@ module _ (a b m n : ℕ) where
       go (pass l) = l ∙ sym (lt-ltb (a * 4 + m) (b * 4 + n) (omega (arith, ltb-true a b l, h)))
       go (fail l) = l ∙ sym (le-ltb (a * 4 + m) (b * 4 + n) (omega (arith, ltb-false a b l, ne, k)))
 
-pub key-order : (x y : Row) → rowOk x ≡ true → rowOk y ≡ true → x .number ≤ 65535 → y .number ≤ 65535 → ltb (key x) (key y) ≡ standsBefore x y
+pub key-order : KeyOrder
 unfolding key standsBefore
 key-order x y f g h k =
     sym (go (case (eqb (x .kind) (y .kind))) (case (eqb (x .pad) (y .pad))) (case (eqb (x .program) (y .program))))
