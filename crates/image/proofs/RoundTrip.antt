@@ -192,7 +192,7 @@ unfolding isImage
 encode-is-image t = and-intro (and-intro (eq-eqb _ imageSize (image-long t)) (kinds-ok t)) (lives-ok t)
 
 -- ---- what is read from an image is written again
-kind-again : (n : ℕ) → n ≤ 4 → kindNumber (kindOf n) ≡ n
+pub kind-again : (n : ℕ) → n ≤ 4 → kindNumber (kindOf n) ≡ n
 unfolding kindOf
 kind-again n h = eqb-true _ n (below-at 5 (λ m. eqb (kindNumber (kindOf m)) m) refl n (omega arith))
 

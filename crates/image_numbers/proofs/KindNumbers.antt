@@ -5,20 +5,16 @@ use mathlib.Core.Path.{_≡_, refl, sym, ap, _∙_}
 use mathlib.Core.List.{List}
 use lib.Dec.{leb, eqb}
 use lib.ListN.{getD}
-use borrow.Author.Tests.{leb-true, leb-false, eqb-true, eq-eqb, ne-eqb}
+use borrow.Author.Tests.{leb-true, leb-false, eq-eqb, ne-eqb}
 use Rattle.lists.proofs.Tests.{Case, pass, fail, case}
-use Rattle.lists.proofs.Below.{below-at}
 use Rattle.tables.specs.declared.Ticket.{Ticket}
 use Rattle.tables.specs.Names.{free}
 use Rattle.image.specs.Numbers.{numberAt}
 use Rattle.image.specs.Image.{kindNumber, kindOf, ticketStart}
+use Rattle.image.proofs.RoundTrip.{kind-again}
 use Rattle.image_read.specs.Places.{ticketsIn}
 use Rattle.image_read.proofs.Places.{kind-here}
 use Rattle.image_numbers.specs.Numbers.{numberIf}
-
-kind-again : (n : ℕ) → n ≤ 4 → kindNumber (kindOf n) ≡ n
-unfolding kindOf
-kind-again n h = eqb-true _ n (below-at 5 (λ m. eqb (kindNumber (kindOf m)) m) refl n (omega arith))
 
 no-kind : (n : ℕ) → 4 < n → kindNumber (kindOf n) ≡ 0
 unfolding kindOf

@@ -16,7 +16,7 @@ use Rattle.tables.specs.Same.{saidBy, said, saidEntry, SameTables}
 use Rattle.tables.specs.Kinds.{isGrant, isRecall}
 
 -- ---- what a ticket of each kind says
-said-kind : (c : Kind) (k : Ticket) → saidBy c k .kind ≡ c
+pub said-kind : (c : Kind) (k : Ticket) → saidBy c k .kind ≡ c
 unfolding saidBy
 said-kind Free k = refl
 said-kind Taken k = refl

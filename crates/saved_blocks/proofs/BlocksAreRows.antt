@@ -10,7 +10,7 @@ use lib.Dec.{ltb, eqb}
 use borrow.Author.Tests.{ltb-true, ltb-false, eqb-true, eq-eqb}
 use Rattle.lists.specs.Lists.{keep}
 use Rattle.lists.specs.Parts.{tabulate, joined}
-use Rattle.lists.specs.Members.{In, first, later}
+use Rattle.lists.specs.Members.{In, first}
 use Rattle.lists.proofs.Tests.{Case, pass, fail, case, no-true, and-r, and-intro}
 use Rattle.lists.proofs.MemberLaws.{in-none, in-cons, in-joined, from-joined, mapped, in-map}
 use Rattle.lists.proofs.Rising.{Rising, empty, rises, keep-rising, rising-joined, rising-tabulate, rising-map, is-sorted}
@@ -20,12 +20,13 @@ use Rattle.tables.specs.declared.Kind.the-variants.{Free, Taken, Received, Chil
 use Rattle.tables.specs.Kinds.{isLive, isHead}
 use Rattle.tables.specs.Names.{nameOf}
 use Rattle.tables.specs.Lookup.{ticketsOf, lastOf, lookup, entryOf, namesOf}
-use Rattle.tables.specs.Same.{saidBy, saidEntry}
+use Rattle.tables.specs.Same.{saidEntry}
 use Rattle.tables.proofs.KindLaws.{live-head}
 use Rattle.tables.proofs.Keys.{ticketKeys, entryKeys, ticketLaws, entryLaws, lookup-keyed, entry-keyed}
 use Rattle.tables.proofs.ByNumber.{Named, named, in-names}
 use Rattle.preservation.specs.Rules.{Given}
 use Rattle.preservation.proofs.RuleFacts as facts
+use Rattle.sameness.proofs.SaidFacts.{said-kind}
 use Rattle.image.specs.Image.{kindNumber}
 use Rattle.saved.specs.declared.Row.{Row}
 use Rattle.saved.specs.Row.{key}
@@ -37,14 +38,6 @@ use Rattle.saved_blocks.specs.Blocks.{ofKind, hasEntry, ticketLine, entr
 use Rattle.saved_blocks.proofs.BlockLaws.{block-last, block-tickets, block-entries, kind-alive, entry-head, entry-alive}
 
 -- ---- keys
-said-kind : (c : Kind) (k : Ticket) → saidBy c k .kind ≡ c
-unfolding saidBy
-said-kind Free k = refl
-said-kind Taken k = refl
-said-kind Received k = refl
-said-kind Child k = refl
-said-kind Recall k = refl
-
 row-kind : (pad program : ℕ) (k : Ticket) → ticketRow pad program k .kind ≡ kindNumber (k .kind)
 unfolding ticketRow
 row-kind pad program k = ap kindNumber (said-kind (k .kind) k)
