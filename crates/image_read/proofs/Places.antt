@@ -1,16 +1,10 @@
 -- What stands at each place of an image.
-use Prim.Native.Nat.{ℕ, _≤_, _<_}
-use native.Mathlib.Omega.{arith}
+use Prim.Native.Nat.{ℕ, _<_}
 use mathlib.Core.Path.{_≡_, refl, ap, _∙_}
-use mathlib.Core.Bool.{true, false}
 use mathlib.Core.List.{List}
-use lib.Dec.{eqb}
 use lib.ListN.{length, getD, drop}
-use borrow.Author.Tests.{eqb-false}
-use Rattle.lists.proofs.Tests.{Case, pass, fail, case}
 use Rattle.lists.proofs.PartLaws.{length-tabulate, getD-tabulate}
 use Rattle.tables.specs.declared.Ticket.{Ticket}
-use Rattle.tables.specs.Kinds.{isLive}
 use Rattle.tables.specs.Names.{free, noEntry}
 use Rattle.image.specs.Numbers.{numberAt}
 use Rattle.image.specs.Image.{kindOf, readTicket, readEntry, ticketStart, entryStart, decode}

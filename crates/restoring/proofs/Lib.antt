@@ -7,3 +7,4 @@ pub mod SavedShort
 pub mod LoadingSound
 pub mod LoadsShort
 pub mod NumbersMustFit
+pub mod SameSaved

@@ -32,7 +32,9 @@ use Rattle.saved.specs.Save.{programs, lastRow, ticketRow, ticketRows, entryRow
 use Rattle.saved.specs.Load.{noRow, above, lastOfProgram, ticketOfProgram, hasRoom, mayFollow, allFollow, allPrograms}
 use Rattle.saved.proofs.RowLaws.{ranges, three-kinds, last-no-ticket, last-no-entry, ticket-no-entry, last-kind, last-is, is-last, ticket-kind, ticket-is, is-ticket}
 use Rattle.saved_laws.proofs.Assembly.{listed, same-program, programs-once}
-use Rattle.restoring.proofs.RowsInForm.{InForm, Good, LastLine, TicketLine, EntryLine, lastLines, ticketLines, entryLines, last-out, ticket-out, entry-out, Line, last, ticket, entry, line-out, lasts-found, tickets-found, entries-found, last-in, found-in, ticket-in, entry-in, line-form}
+use Rattle.restoring.proofs.RowsInForm.{InForm, Good, LastLine, TicketLine, EntryLine, lastLines, ticketLines, entryLines, last-out, ticket-out, entry-out}
+use Rattle.restoring.proofs.RowsInForm.{Line, last, ticket, entry, line-out, lasts-found, tickets-found, entries-found, last-in, found-in, ticket-in}
+use Rattle.restoring.proofs.RowsInForm.{entry-in, line-form}
 
 -- ---- "Lines stand by kind, pad, program, number": a key has these as digits
 pub record SameKey (x y : Row) : Type 0 where

@@ -6,7 +6,6 @@ use mathlib.Core.Bool.{cond}
 use lib.Dec.{ltb, eqb}
 use borrow.Author.Tests.{ltb-true, ltb-false, lt-ltb, le-ltb, eqb-true, eqb-false}
 use Rattle.lists.proofs.Tests.{Case, pass, fail, case}
-use Rattle.saved.specs.declared.Row.{Row}
 use Rattle.saved.specs.Row.{key}
 use Rattle.saved.specs.Claims.{standsBefore, KeyOrder}
 use Rattle.saved.proofs.RowLaws.{Ranges, ranges}

@@ -55,6 +55,11 @@ pub record Sound (t : Tables) : Type 0 where
 abbrev pub LoadingIsSound : Type 0
 LoadingIsSound = (text : List ℕ) → Sound (load text .tables)
 
+-- places are not in the text: tables that are the same have the same one
+abbrev pub SameSaved : Type 0
+SameSaved =
+    (t u : Tables) → Sized t → Sized u → NumbersFit t → NumbersFit u → inOrder t ≡ true → inOrder u ≡ true → SameTables t u → saved t ≡ saved u
+
 -- a buffer that every saved text fits into
 abbrev pub SavedShort : Type 0
 SavedShort = (t : Tables) → Sized t → NumbersFit t → inOrder t ≡ true → length (saved t) ≤ savedRoom

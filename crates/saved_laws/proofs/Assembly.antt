@@ -5,30 +5,29 @@ use mathlib.Core.Path.{_≡_, refl, sym, ap, _∙_, subst}
 use mathlib.Core.Logic.{_⊎_, inl, inr, ⊎-elim}
 use mathlib.Core.Bool.{true}
 use mathlib.Core.List.{List, [], _++_, map, flatMap}
-use lib.Dec.{leb, eqb}
 use lib.ListN.{length, getD, length-map}
-use borrow.Author.Tests.{leb-true, eqb-true, eqb-false, eq-eqb}
 use Rattle.lists.specs.Tests.{between}
 use Rattle.lists.specs.Lists.{some, firstIndex, keep, countOf, sortedBy}
 use Rattle.lists.specs.Members.{In, first, Once}
-use Rattle.lists.proofs.Tests.{Case, pass, fail, case, and-l, and-r, and-intro, between-low, between-high, between-test}
+use Rattle.lists.proofs.Tests.{pass, between-low, between-high}
 use Rattle.lists.proofs.Rising.{Rising, is-sorted, keep-rising, rising-once, one-key}
 use Rattle.lists.proofs.Filled.{filled-back}
-use Rattle.lists.proofs.MemberLaws.{in-left, in-right, in-either, Kept, kept, in-keep, all-in, found, all-map, map-back, map-same, flat-same, mapped, in-map, flat, in-flat, tabulated, in-tabulate, once-tabulate, once-map, once-flat, once-map-append}
+use Rattle.lists.proofs.MemberLaws.{in-left, in-right, in-either, Kept, kept, in-keep, all-in, found, all-map, map-back, map-same, flat-same, mapped, in-map, flat}
+use Rattle.lists.proofs.MemberLaws.{in-flat, tabulated, in-tabulate, once-tabulate, once-map, once-flat, once-map-append}
 use Rattle.lists.proofs.Counts.{keep-long}
 use Rattle.tables.specs.declared.{Name.Name, Program.Program, Tables.Tables}
 use Rattle.tables.specs.Kinds.{isLive}
-use Rattle.tables.specs.Names.{noName, isNone, isProgram, sameProgram, free, noEntry}
+use Rattle.tables.specs.Names.{noName, isNone, free, noEntry}
 use Rattle.tables.specs.Lookup.{ticketsOf, lastOf}
-use Rattle.image.specs.Image.{kindOf}
 use Rattle.image.proofs.KindNumbers.{live-kind}
 use Rattle.saved.specs.declared.Row.{Row}
-use Rattle.saved.specs.Row.{isLastRow, isTicketRow, isEntryRow, ofProgram, rowOk, key}
+use Rattle.saved.specs.Row.{isLastRow, isTicketRow, isEntryRow, rowOk, key}
 use Rattle.saved.specs.Save.{programs, lastRow, ticketRow, ticketRows, entryRow, rowsFound, rowsOf}
 use Rattle.saved.specs.Load.{lastOfProgram, ticketOfProgram, allFollow, allPrograms, noRow, ticketFrom, entryFrom, programFrom, tablesWith, lastIn}
-use Rattle.saved_laws.proofs.RowsBack.{rows-rise, four, ticket-back, entry-row-back, last-row-back}
+use Rattle.saved_laws.proofs.RowsBack.{rows-rise, ticket-back, entry-row-back, last-row-back}
 use Rattle.saved.proofs.TablesOfLines.{program-at, with-last}
-use Rattle.saved.proofs.RowLaws.{Ranges, ranges, three-kinds, last-no-ticket, last-no-entry, ticket-no-entry, last-kind, last-is, is-last, ticket-kind, ticket-is, is-ticket}
+use Rattle.saved.proofs.RowLaws.{Ranges, ranges, three-kinds, last-no-ticket, last-no-entry, ticket-no-entry, last-kind, last-is, is-last, ticket-kind, ticket-is}
+use Rattle.saved.proofs.RowLaws.{is-ticket}
 use Rattle.saved_laws.proofs.Room.{few-tickets, few-entries, one-last}
 
 -- ---- programs

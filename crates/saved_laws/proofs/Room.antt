@@ -11,9 +11,8 @@ use Rattle.lists.specs.Lists.{countOf}
 use Rattle.lists.specs.Members.{In, first, later}
 use Rattle.lists.proofs.Tests.{Case, pass, fail, case, contradiction, and-l, and-r}
 use Rattle.lists.proofs.MemberLaws.{some-in}
-use Rattle.tables.specs.Names.{sameProgram}
 use Rattle.saved.specs.declared.Row.{Row}
-use Rattle.saved.specs.Row.{isLastRow, isTicketRow, isEntryRow, ofProgram}
+use Rattle.saved.specs.Row.{isLastRow, isTicketRow, isEntryRow}
 use Rattle.saved.specs.Load.{above, lastOfProgram, ticketOfProgram, hasRoom, mayFollow, allFollow}
 use Rattle.saved.proofs.RowLaws.{ticket-is}
 

@@ -136,6 +136,9 @@ brokenEntries =
     -- a received grant's entry under the store, a taken one's under an entry
     breaks 5 (swapBoth doctor (head Received doctor 200 1 1) (entry doctor noName 200 1 1) good) ∷
     breaks 5 (swapBoth clerk (head Taken clerk 0 1 7) (entry clerk capture 0 1 7) good) ∷
+    -- a parent with number 0 that is not the store, by its pad, by its program
+    breaks 5 (swapEntry clerk (entry clerk (nameOf 1 0 0) 4 100 7) good) ∷
+    breaks 5 (swapEntry clerk (entry clerk (nameOf 0 2 0) 4 100 7) good) ∷
     -- the parent entry is dead, lacks the pass on right, does not contain the sheets, does not contain the rights
     breaks 5 (dropEntries (λ n. eqName n nurse) good) ∷
     breaks 5 (swapBoth nurse (head Received nurse 2 2 3) (entry nurse capture 2 2 3) good) ∷

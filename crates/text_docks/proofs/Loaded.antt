@@ -1,12 +1,12 @@
 -- Where the image held the tables of lines, it holds them with their grants' dock names now.
-use Prim.Native.Nat.{ℕ, zero, suc, _+_, _*_, _/_, _%_, _≤_, _<_}
+use Prim.Native.Nat.{ℕ, zero, suc, _+_, _*_, _/_, _%_, _<_}
 use native.Mathlib.Omega.{arith}
-use mathlib.Core.Path.{_≡_, refl, sym, ap, subst, _∙_}
-use mathlib.Core.Bool.{Bool, true, false, cond}
+use mathlib.Core.Path.{_≡_, refl, sym, ap, _∙_}
+use mathlib.Core.Bool.{true, false}
 use mathlib.Core.List.{List, [], _∷_, map}
-use lib.Dec.{leb, eqb}
-use lib.ListN.{length, getD}
-use borrow.Author.Tests.{leb-true, eqb-true, eqb-false}
+use lib.Dec.{eqb}
+use lib.ListN.{getD}
+use borrow.Author.Tests.{eqb-true, eqb-false}
 use Rattle.lists.specs.Tests.{between}
 use Rattle.lists.specs.Lists.{keep, filled}
 use Rattle.lists.specs.Members.{In, first, later}
@@ -14,21 +14,20 @@ use Rattle.lists.proofs.Tests.{Case, pass, fail, case, between-low, between-hig
 use Rattle.lists.proofs.MemberLaws.{kept}
 use Rattle.lists.proofs.Growing.{filled-at}
 use Rattle.tables.specs.declared.{Name.Name, Ticket.Ticket, Program.Program, Tables.Tables}
-use Rattle.tables.specs.Kinds.{isGrant}
 use Rattle.tables.specs.Names.{nameOf, free}
-use Rattle.tables.specs.Lookup.{ticketsOf, lastOf}
+use Rattle.tables.specs.Lookup.{lastOf}
 use Rattle.tables.specs.Chains.{chainHead}
-use Rattle.image.specs.Image.{decode, kindOf}
+use Rattle.image.specs.Image.{decode}
 use Rattle.image.proofs.KindNumbers.{grant-kind, recall-kind}
-use Rattle.image_places.specs.Places.{placed, nameAt, Flattened}
-use Rattle.image_read.specs.Places.{ticketsIn, lastsIn, entriesIn}
+use Rattle.image_places.specs.Places.{placed, Flattened}
+use Rattle.image_read.specs.Places.{ticketsIn, lastsIn}
 use Rattle.image_read.proofs.Places.{tickets-long, lasts-long, entries-decoded}
 use Rattle.image_find.proofs.Laws.{flattened}
-use Rattle.image_write.specs.Shows.{Shows, Holds}
+use Rattle.image_write.specs.Shows.{Holds}
 use Rattle.image_write.proofs.ToTables.{holds}
 use Rattle.saved.specs.declared.Row.{Row}
 use Rattle.saved.specs.Row.{nameIn, isTicketRow}
-use Rattle.saved.specs.Load.{ticketOfProgram, ticketFrom, programFrom, tablesWith}
+use Rattle.saved.specs.Load.{ticketOfProgram, ticketFrom, tablesWith}
 use Rattle.saved.proofs.RowLaws.{ticket-kind, ticket-is}
 use Rattle.saved.proofs.TablesOfLines.{with-tickets, with-sized, with-last}
 use Rattle.text_docks.specs.Docks.{withDock, dockedAt, Docked}

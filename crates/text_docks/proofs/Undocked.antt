@@ -2,7 +2,7 @@
 use Prim.Native.Nat.{ℕ, _+_, _*_, _/_, _%_, _≤_, _<_}
 use native.Mathlib.Omega.{arith}
 use mathlib.Core.Path.{_≡_, refl, sym, ap, _∙_, fun-ext}
-use mathlib.Core.Bool.{Bool, true, false, cond}
+use mathlib.Core.Bool.{true, false}
 use mathlib.Core.List.{List, [], _∷_, map}
 use lib.Dec.{ltb}
 use lib.ListN.{length, getD, length-map, List·getD-map, List·getD-eq-default}
@@ -13,7 +13,7 @@ use Rattle.lists.proofs.Tests.{Case, pass, fail, case}
 use Rattle.tables.specs.declared.{Name.Name, Kind.Kind, Ticket.Ticket, Program.Program, Pad.Pad, Tables.Tables}
 use Rattle.tables.specs.declared.Kind.the-variants.{Free, Taken, Received, Child, Recall}
 use Rattle.tables.specs.Names.{noName, free, noProgram, noPad}
-use Rattle.tables.specs.Lookup.{Sized, padAt, programAt, ticketsOf, hasNumber, ticketIn, lookup}
+use Rattle.tables.specs.Lookup.{Sized, padAt, ticketsOf, hasNumber, ticketIn, lookup}
 use Rattle.tables.specs.Chains.{parentBy, parentOf, endOf, chainHead}
 use Rattle.image_places.specs.Places.{placed}
 use Rattle.text_docks.specs.Docks.{withDock}

@@ -1,11 +1,10 @@
 -- The walk along parents, step by step.
 use Prim.Native.Nat.{ℕ, zero, suc, _-_, _<_}
 use native.Mathlib.Omega.{arith}
-use mathlib.Core.Path.{_≡_, refl, sym, ap, _∙_}
-use mathlib.Core.Bool.{Bool, true, false, cond}
+use mathlib.Core.Path.{_≡_, refl, sym, ap}
 use borrow.Author.Tests.{eq-eqb, ne-eqb}
 use Rattle.tables.specs.declared.{Name.Name}
-use Rattle.tables.specs.Names.{noName, isNone}
+use Rattle.tables.specs.Names.{noName}
 use Rattle.tables.specs.Chains.{endOf}
 
 module _ (parent : Name → Name) where

@@ -5,7 +5,7 @@ ghost use mathlib.Core.Bool.{true};
 ghost use lib.ListN.{length, getD, set};
 ghost use Rattle.tables.specs.Names.{free};
 ghost use Rattle.tables.specs.Lookup.{lookup};
-ghost use Rattle.tables.specs.Chains.{parentBy, parentOf, chainHead};
+ghost use Rattle.tables.specs.Chains.{parentBy, parentOf, endOf, chainHead};
 ghost use Rattle.image.specs.Layout.{imageSize};
 ghost use Rattle.image.specs.Image.{decode, isImage};
 ghost use Rattle.image_places.specs.Places.{nameAt};
@@ -36,23 +36,20 @@ fn parent_by(n: Name, k: Ticket) -> Name
     }
 }
 
-// The head of a chain: the walk along parents, until one has none. 64 places are more than a chain on a pad has.
-fn head_of(image: &[u8], n: Name) -> Name
+// The head of a chain: the walk along parents, until one has none, with the places left falling.
+fn head_of(image: &[u8], n: Name, left: usize) -> Name
     requires { ⌜ length (now image) ≡ imageSize ⌝ }
-    ensures { λ r. ⌜ r ≡ chainHead (decode (now (image .entry))) n ⌝ }
+    ensures { λ r. ⌜ r ≡ endOf left (parentOf (lookup (decode (now (image .entry))))) n ⌝ }
 {
-    let mut at = n;
-    let mut left: usize = PAD;
-    while 0 < left {
-        let k = image_find::ticket(image, at);
-        let up = parent_by(at, k);
-        if up.number == 0 {
-            return at;
-        }
-        at = up;
-        left = left - 1;
+    if left == 0 {
+        return Name::none();
     }
-    Name::none()
+    let k = image_find::ticket(image, n);
+    let up = parent_by(n, k);
+    if up.number == 0 {
+        return n;
+    }
+    head_of(image, up, left - 1)
 }
 
 // The grant k at a place gets its dock name.
@@ -65,7 +62,7 @@ fn put_dock(image: &mut [u8], place: usize, k: Ticket)
         program: (place / PROGRAM % 8) as u16,
         number: k.number,
     };
-    let dock = head_of(image, n);
+    let dock = head_of(image, n, PAD);
     let kind = k.kind;
     let other = k.other;
     let rights = k.rights;

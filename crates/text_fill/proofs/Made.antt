@@ -1,21 +1,20 @@
 -- What the lines make place by place is what the definition makes of them all: an image that they filled holds their tables.
-use Prim.Native.Nat.{ℕ, suc, _+_, _*_, _/_, _%_, _≤_, _<_}
+use Prim.Native.Nat.{ℕ, _+_, _*_, _/_, _%_, _<_}
 use native.Mathlib.Omega.{arith}
-use mathlib.Core.Path.{_≡_, refl, sym, ap, subst, _∙_}
-use mathlib.Core.Logic.{_⊎_, inl, inr}
+use mathlib.Core.Path.{_≡_, refl, sym, ap, _∙_}
 use mathlib.Core.Bool.{Bool, true, false, cond, not}
 use mathlib.Core.List.{List, [], _∷_, _++_, map, map-append}
-use lib.Dec.{ltb, eqb}
-use lib.ListN.{length, getD, set, replicate, length-map, length-set, length-replicate, length-append}
+use lib.Dec.{ltb}
+use lib.ListN.{length, getD, set, replicate, length-map, length-set, length-replicate}
 use lib.Seq.{ext-getD, getD-set-same, getD-set-other}
-use borrow.Author.Tests.{eqb-true, eqb-false, ltb-true}
-use Rattle.lists.specs.Lists.{firstIndex, some, keep, countOf, filled}
+use borrow.Author.Tests.{ltb-true}
+use Rattle.lists.specs.Lists.{firstIndex, some, keep, filled}
 use Rattle.lists.proofs.Tests.{Case, pass, fail, case, contradiction, and-r}
 use Rattle.lists.proofs.Reading.{same-all}
 use Rattle.lists.proofs.Counts.{keep-long}
 use Rattle.lists.proofs.Filled.{filled-long}
 use Rattle.lists.proofs.Growing.{turned, turned-more, one-kept, none-kept, count-turned, found-as-before, found-new, filled-at, next-filled}
-use Rattle.tables.specs.declared.{Name.Name, Ticket.Ticket, Entry.Entry, Tables.Tables}
+use Rattle.tables.specs.declared.{Ticket.Ticket, Entry.Entry, Tables.Tables}
 use Rattle.tables.specs.Names.{free, noEntry}
 use Rattle.tables.specs.Lookup.{ticketsOf}
 use Rattle.image_places.specs.Places.{Flattened}
@@ -23,11 +22,11 @@ use Rattle.image_write.specs.Shows.{Holds}
 use Rattle.image_write.proofs.ToTables.{holds}
 use Rattle.saved.specs.declared.Row.{Row}
 use Rattle.saved.specs.Row.{isLastRow, isTicketRow, isEntryRow, rowOk}
-use Rattle.saved.specs.Load.{above, hasRoom, mayFollow, lastOfProgram, ticketOfProgram, noRow, ticketFrom, entryFrom, programFrom, tablesWith, lastIn}
-use Rattle.saved.proofs.RowLaws.{Ranges, ranges, three-kinds, last-no-ticket, last-no-entry, ticket-no-entry, last-kind, last-is, is-last, ticket-kind, ticket-is, is-ticket}
+use Rattle.saved.specs.Load.{above, hasRoom, mayFollow, lastOfProgram, ticketOfProgram, noRow, ticketFrom, entryFrom, tablesWith, lastIn}
+use Rattle.saved.proofs.RowLaws.{ranges, last-kind, last-is, is-last, ticket-kind, ticket-is, is-ticket}
 use Rattle.saved.proofs.TablesOfLines.{with-tickets, with-sized, with-last}
 use Rattle.text_fill.specs.Filling.{programOf, sortOf, mostOf, countBefore, ticketsBy, lastsBy, entriesBy, bareTables, Followed, none, more, Filled}
-use Rattle.text_fill.proofs.Sorts.{sort-ticket, sort-entry, most-ticket, most-entry, count-last, count-ticket, count-entry, some-counted, room-by-sort}
+use Rattle.text_fill.proofs.Sorts.{sort-ticket, sort-entry, most-ticket, most-entry, count-ticket, count-entry, some-counted, room-by-sort}
 
 -- the lines in order
 abbrev pub rowsBy : List Row → List Row
@@ -111,7 +110,8 @@ module _ (p q : ℕ) (a : p < 4) (b : q < 8) where
           → getD (ticketsBy (r ∷ before)) (8 * (8 * p + q) + i) free ≡ getD (ticketsOfLines p q (rowsBy (r ∷ before))) i free
       go h (pass t) _ =
           let w = ticket-is p q r t in
-          let c : countBefore before (sortOf r) ≡ length xs = ap (countBefore before) (sort-ticket r (ticket-kind p q r t) ∙ λ j. 32 + (8 * w .0 j + w .1 j)) ∙ sym (tickets-counted earlier) in
+          let c : countBefore before (sortOf r) ≡ length xs = ap (countBefore before) (sort-ticket r (ticket-kind p q r t) ∙ λ j. 32 + (8 * w .0 j + w .1 j)) ∙ sym
+          (tickets-counted earlier) in
           let few : length xs < 8 = omega (arith, c, counted earlier r o m, most-ticket r (ticket-kind p q r t)) in
           rw (ticket-kind p q r t)
           (next-filled free k (ticketsBy before) xs (8 * (8 * p + q)) i (8 * (8 * p + q) + i) (8 * programOf r + countBefore before (sortOf r)) refl

@@ -3,11 +3,11 @@ use Prim.Native.Nat.{ℕ, suc, _+_, _-_, _*_, _<_}
 use native.Mathlib.Omega.{arith}
 use mathlib.Core.Path.{_≡_, refl, sym, ap, _∙_}
 use mathlib.Core.Bool.{true, cond}
-use mathlib.Core.List.{List, [], _∷_}
+use mathlib.Core.List.{List, _∷_}
 use lib.Dec.{eqb}
 use lib.ListN.{length, getD, set, length-set}
 use lib.Seq.{getD-set-same, getD-set-other}
-use borrow.Author.Tests.{eqb-true, eqb-false, eq-eqb, ne-eqb}
+use borrow.Author.Tests.{eqb-true, eqb-false}
 use Rattle.lists.specs.Lists.{countOf}
 use Rattle.lists.proofs.Tests.{Case, pass, fail, case, cannot-pass}
 use Rattle.tables.specs.declared.{Ticket.Ticket, Entry.Entry}
@@ -16,7 +16,7 @@ use Rattle.image_write.specs.Shows.{Shows}
 use Rattle.saved.specs.declared.Row.{Row}
 use Rattle.saved.specs.Row.{isLastRow, isTicketRow, isEntryRow, rowOk}
 use Rattle.saved.specs.Load.{ticketFrom, entryFrom}
-use Rattle.saved.proofs.RowLaws.{Ranges, ranges, three-kinds, last-no-ticket, last-no-entry, ticket-no-entry}
+use Rattle.saved.proofs.RowLaws.{ranges, last-no-ticket, last-no-entry, ticket-no-entry}
 use Rattle.text_fill.specs.Filling.{sorts, programOf, sortOf, mostOf, countBefore, ticketsBy, lastsBy, entriesBy, Tallied, Filled}
 use Rattle.text_fill.proofs.Sorts.{sort-low, sort-last, sort-entry, sort-ticket, most-ticket}
 

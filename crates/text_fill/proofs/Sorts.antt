@@ -13,7 +13,8 @@ use Rattle.lists.proofs.Tests.{Case, pass, fail, case, cannot-pass, both-ways}
 use Rattle.saved.specs.declared.Row.{Row}
 use Rattle.saved.specs.Row.{isLastRow, isTicketRow, isEntryRow, rowOk}
 use Rattle.saved.specs.Load.{lastOfProgram, ticketOfProgram, hasRoom}
-use Rattle.saved.proofs.RowLaws.{Ranges, ranges, three-kinds, last-no-ticket, last-no-entry, ticket-no-entry, last-kind, last-is, is-last, ticket-kind, ticket-is, is-ticket}
+use Rattle.saved.proofs.RowLaws.{Ranges, ranges, three-kinds, last-no-ticket, last-no-entry, ticket-no-entry, last-kind, last-is, is-last, ticket-kind, ticket-is}
+use Rattle.saved.proofs.RowLaws.{is-ticket}
 use Rattle.text_fill.specs.Filling.{sorts, programOf, sortOf, mostOf, countBefore, Followed, none, more}
 
 -- ---- the kinds by their numbers
@@ -169,7 +170,8 @@ room-by-sort before r ok o = go (three-kinds r o)
         rw l
         (ap not (some-counted (lastOfProgram (r .pad) (r .program)) before)
         ∙ not-counted (countOf (lastOfProgram (r .pad) (r .program)) before)
-        ∙ ap (λ (n : ℕ). ltb n 1) (count-last ok (r .pad) (r .program) (omega (arith, w .pad)) (omega (arith, w .program)) ∙ ap (countBefore before) (sym (sort-last r l))))
+        ∙ ap (λ (n : ℕ). ltb n 1) (count-last ok (r .pad) (r .program) (omega (arith, w .pad)) (omega (arith, w .program)) ∙ ap (countBefore before)
+        (sym (sort-last r l))))
     go (inr (inl k)) =
         rw (cannot-pass (isLastRow r) (λ l. last-no-ticket r l k), cannot-pass (isEntryRow r) (ticket-no-entry r k))
         (ap (λ (n : ℕ). ltb n 8)

@@ -25,7 +25,7 @@ use Rattle.image_read.specs.Places.{ticketsIn, lastsIn}
 use Rattle.image_read.proofs.Places.{tickets-long, lasts-long, entries-decoded}
 use Rattle.image_find.proofs.Laws.{flattened}
 use Rattle.image_places.specs.Places.{placed}
-use Rattle.image_write.specs.Shows.{Shows, Holds}
+use Rattle.image_write.specs.Shows.{Holds}
 use Rattle.preservation.proofs.EmptyDockInOrder.{empty-sized}
 use Rattle.text.specs.Bytes.{lineEnd}
 use Rattle.text.specs.Reading.{lines, hasValues, valuesOf}
@@ -218,8 +218,10 @@ module _ (text : List ℕ) (start : ℕ) (image tally : List ℕ) (next from : �
     unfolding allPrograms programs
     programs-told =
         both-ways (all (λ i. ltb 0 (getD tally i 0)) programs) (allPrograms (rowsOfLines all-lines))
-        (λ e. every-intro 32 (λ i. some (lastOfProgram (i / 8) (i % 8)) (rowsOfLines all-lines)) (λ i low. sym (told i low) ∙ every-at 32 (λ j. ltb 0 (getD tally j 0)) e i low))
-        (λ e. every-intro 32 (λ i. ltb 0 (getD tally i 0)) (λ i low. told i low ∙ every-at 32 (λ j. some (lastOfProgram (j / 8) (j % 8)) (rowsOfLines all-lines)) e i low))
+        (λ e. every-intro 32 (λ i. some (lastOfProgram (i / 8) (i % 8)) (rowsOfLines all-lines))
+        (λ i low. sym (told i low) ∙ every-at 32 (λ j. ltb 0 (getD tally j 0)) e i low))
+        (λ e. every-intro 32 (λ i. ltb 0 (getD tally i 0)) (λ i low. told i low ∙ every-at 32 (λ j. some (lastOfProgram (j / 8) (j % 8)) (rowsOfLines all-lines)) e i
+        low))
       where
         told : (i : ℕ) → i < 32 → ltb 0 (getD tally i 0) ≡ some (lastOfProgram (i / 8) (i % 8)) (rowsOfLines all-lines)
         told i low =

@@ -1,12 +1,11 @@
 -- The whole load: what each answer leaves.
 use Prim.Native.Nat.{ℕ, _<_}
-use mathlib.Core.Path.{_≡_, refl, sym, ap, subst, _∙_}
-use mathlib.Core.Bool.{Bool, true, false, not, _&&_, cond}
+use mathlib.Core.Path.{_≡_, refl, sym, ap, _∙_}
+use mathlib.Core.Bool.{true, false, not, _&&_, cond}
 use mathlib.Core.List.{List}
 use lib.Dec.{eqb}
 use lib.ListN.{length, getD, replicate}
 use borrow.Author.Tests.{eq-eqb, ne-eqb}
-use Rattle.lists.proofs.Tests.{and-intro, and-l, and-r}
 use Rattle.tables.specs.declared.Tables.{Tables}
 use Rattle.tables.specs.Names.{emptyTables}
 use Rattle.tables.specs.Order.{inOrder}

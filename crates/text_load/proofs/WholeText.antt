@@ -1,5 +1,5 @@
 -- The whole text: its last byte, its first line, and the lines under it.
-use Prim.Native.Nat.{ℕ, zero, suc, _+_, _-_, _≤_}
+use Prim.Native.Nat.{ℕ, _+_, _-_, _≤_}
 use native.Mathlib.Omega.{arith}
 use mathlib.Core.Path.{_≡_, refl, sym, ap, subst, _∙_}
 use mathlib.Core.Bool.{Bool, true, false, _&&_}
@@ -9,17 +9,15 @@ use lib.ListN.{length, getD, drop}
 use Rattle.lists.specs.Lists.{all}
 use Rattle.lists.proofs.Tests.{no-true, and-false}
 use Rattle.lists.proofs.Search.{first-within}
-use Rattle.image_write.specs.Shows.{Holds}
 use Rattle.text.specs.declared.FirstLine.{FirstLine}
 use Rattle.text.specs.Bytes.{lineEnd}
 use Rattle.text.specs.Reading.{lines}
-use Rattle.text.specs.Names.{named, behindNames, firstLineOf}
+use Rattle.text.specs.Names.{named, firstLineOf}
 use Rattle.text.proofs.ReadingLaws.{upTo}
 use Rattle.text.proofs.NamesLaws.{lines-behind}
 use Rattle.saved.specs.Row.{columnNames, lineOk}
 use Rattle.saved.specs.Load.{isEnded, linesIn, rowsIn, allFollow, allPrograms, formOk}
-use Rattle.text_fill.specs.Filling.{bareTables}
-use Rattle.text_load.specs.Reading.{rowsOfLines, linesOk, ReadsLines, ReadsText}
+use Rattle.text_load.specs.Reading.{linesOk, ReadsLines, ReadsText}
 
 -- ---- the last byte
 pub not-ended : (text : List ℕ) → length text ≡ 0 → false ≡ isEnded text
@@ -74,7 +72,8 @@ module _ (text : List ℕ) where
     unfolding firstLineOf
     named-so t = sym (ap (λ (l : FirstLine). l .ok) e) ∙ t
 
-    pub read-under : first .ok ≡ true → isEnded text ≡ true → (ok : Bool) (image : List ℕ) → ReadsLines (lines (drop (first .end + 1) text)) ok image → ReadsText text ok image
+    pub read-under : first .ok ≡ true → isEnded text ≡ true → (ok : Bool) (image : List ℕ) → ReadsLines (lines (drop (first .end + 1) text)) ok image → ReadsText
+        text ok image
     read-under t last ok image r =
         let same : linesIn text ≡ lines (drop (first .end + 1) text) = lines-behind text (first .end) end-is in
         let r′ : ReadsLines (linesIn text) ok image = subst (λ (ls : List (List ℕ)). ReadsLines ls ok image) (sym same) r in

@@ -1,6 +1,6 @@
 -- What the reading of a saved text answers and leaves: whether its lines have the form, and if so the tables that they make, with each grant's
 -- own name as its dock name.
-use Prim.Native.Nat.{ℕ, _+_, _≤_}
+use Prim.Native.Nat.{ℕ}
 use mathlib.Core.Path.{_≡_}
 use mathlib.Core.Bool.{Bool, true, _&&_}
 use mathlib.Core.List.{List, [], map}

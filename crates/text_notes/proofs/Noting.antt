@@ -2,7 +2,7 @@
 -- no two have one; so in the end a grant has a note where it has an entry, and that is the entry's place.
 use Prim.Native.Nat.{ℕ, _+_, _≤_, _<_}
 use native.Mathlib.Omega.{arith}
-use mathlib.Core.Path.{_≡_, refl, sym, ap, subst, _∙_}
+use mathlib.Core.Path.{_≡_, sym, ap, subst, _∙_}
 use mathlib.Core.Bool.{true, false}
 use mathlib.Core.List.{List}
 use lib.Dec.{ltb, eqb}
@@ -15,7 +15,7 @@ use Rattle.lists.proofs.Reading.{same-all, any-default}
 use Rattle.tables.specs.declared.{Name.Name, Ticket.Ticket, Entry.Entry, Tables.Tables}
 use Rattle.tables.specs.Kinds.{isLive, isHead}
 use Rattle.tables.specs.Names.{noEntry}
-use Rattle.tables.specs.Lookup.{lastOf, lookup, placeOf, entryOf}
+use Rattle.tables.specs.Lookup.{lookup, placeOf, entryOf}
 use Rattle.tables.proofs.KindLaws.{live-head}
 use Rattle.tables.proofs.ByPlace.{entryAt}
 use Rattle.image.specs.Numbers.{numberAt}
@@ -24,7 +24,7 @@ use Rattle.image.proofs.NumberLaws.{number-drop}
 use Rattle.image_places.specs.Places.{placed, nameAt}
 use Rattle.image_places.proofs.Kept.{found-there, kept-here}
 use Rattle.image_read.specs.Places.{entriesIn}
-use Rattle.image_read.proofs.Places.{entries-long, entries-decoded, entry-here}
+use Rattle.image_read.proofs.Places.{entries-decoded, entry-here}
 use Rattle.image_find.proofs.Laws.{flattened}
 use Rattle.preservation.proofs.RuleFacts.{entry-head}
 use Rattle.preservation.proofs.TestsByName.{at-entry-name}

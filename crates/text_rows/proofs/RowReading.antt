@@ -1,16 +1,12 @@
 -- What is read from a line, in the two cases.
-use Prim.Native.Nat.{ℕ, _≤_}
-use mathlib.Core.Path.{_≡_, refl, sym, ap, _∙_}
-use mathlib.Core.Bool.{Bool, true, false, _&&_}
+use Prim.Native.Nat.{ℕ}
+use mathlib.Core.Path.{_≡_, sym, ap, _∙_}
+use mathlib.Core.Bool.{Bool, true, false}
 use mathlib.Core.List.{List}
-use lib.Dec.{leb}
-use borrow.Author.Tests.{leb-true}
-use Rattle.lists.proofs.Tests.{contradiction, and-l, and-r}
-use Rattle.tables.specs.Names.{isProgram}
+use Rattle.lists.proofs.Tests.{contradiction}
 use Rattle.text.specs.Reading.{hasValues, valuesOf}
 use Rattle.saved.specs.declared.Row.{Row}
-use Rattle.saved.specs.Row.{rowOf, ownOk, otherOk, sheetsOk, rowOk, lineOk}
-use Rattle.text_rows.specs.declared.RowRead.{RowRead}
+use Rattle.saved.specs.Row.{rowOf, rowOk, lineOk}
 use Rattle.text_rows.specs.Reading.{ReadsRow}
 
 not-line : (line : List ℕ) → hasValues 11 line ≡ false → lineOk line ≡ false

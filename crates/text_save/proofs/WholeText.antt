@@ -15,7 +15,7 @@ use Rattle.text.specs.Appending.{Appends, Countable}
 use Rattle.text.proofs.Appending.{append-as, append-both}
 use Rattle.saved.specs.declared.Row.{Row}
 use Rattle.saved.specs.Row.{columnNames}
-use Rattle.saved.specs.Save.{rowsOf, textOf, saved}
+use Rattle.saved.specs.Save.{textOf, saved}
 use Rattle.saved.specs.Claims.{NumbersFit}
 use Rattle.restoring.proofs.RowsInForm.{Good}
 use Rattle.restoring.proofs.SavedShort.{saved-short-of}

@@ -1,14 +1,10 @@
 -- The lines one after the other. Before the line that begins at `from`, with `done` lines behind it and `total` bytes of output: whoever
 -- appends the answers to the rest has appended the answers to all, and the rest leaves the state that all leave.
-use Prim.Native.Nat.{ℕ, suc, _+_, _-_, _≤_, _<_}
+use Prim.Native.Nat.{ℕ, _+_, _-_, _≤_, _<_}
 use native.Mathlib.Omega.{arith}
 use mathlib.Core.Path.{_≡_, refl, sym, ap, _∙_}
 use mathlib.Core.List.{List, [], _∷_, _++_}
-use lib.Dec.{eqb}
-use lib.ListN.{length, getD, take, drop, length-append, length-drop, drop-of-length-le}
-use lib.Seq.{drop-drop}
-use Rattle.lists.proofs.Search.{first-within}
-use Rattle.lists.proofs.Front.{rest-part}
+use lib.ListN.{length, getD, take, drop, length-append}
 use Rattle.machine.specs.State.{State}
 use Rattle.image.specs.Image.{encode, decode}
 use Rattle.text.specs.Bytes.{lineEnd}

@@ -9,6 +9,7 @@ parent-of-requires c κs = search needs
 returns : tie.Need-returns
 returns c =
     let c3 = c .before .before .before in
+    let c3 = c3 in
     row-with (c3 .args .e) _ (c .parent-of .ensures)
 
 pub entry-row-spec : {M : Type 1} → statement M

@@ -18,6 +18,7 @@ loop-holds c = round-none _ _ _
 put-block-requires : tie.Need-put-block-requires Inv-loop μ-loop
 put-block-requires c κs =
     let c6 = c .before .before .before .before .before .before in
+    let c6 = c6 in
     let room = round-room _ _ _ _ _ _ (c .before .before .loop .inv) (c .before .loop-test .taken) (c6 .pre .1 .1) in
     (c6 .pre .0, ((c6 .pre .1 .0, c .before .loop-test .taken), room))
 
@@ -30,6 +31,7 @@ loop-less c = search needs
 loop-again : tie.Need-loop-again Inv-loop μ-loop
 loop-again c =
     let c4 = c .before .before .before .before in
+    let c4 = c4 in
     let c5 = c4 .before in
     round-more _ _ _ _ _ _ (c5 .loop .inv) (c4 .loop-test .taken) _ _ (c .before .before .put-block .ensures)
 

@@ -20,6 +20,7 @@ abbrev μ-loop : tie.MeasureT-loop
 entry-numbers-requires : tie.Need-entry-numbers-requires Inv-loop μ-loop
 entry-numbers-requires c κs =
     let c3 = c .before .before .before in
+    let c3 = c3 in
     (c3 .pre .0, c3 .pre .1 .0)
 
 mul-from : tie.Need-mul-from Inv-loop μ-loop
@@ -34,6 +35,7 @@ next-above-requires c κs = search needs
 loop-holds : tie.Need-loop-holds Inv-loop μ-loop
 loop-holds c =
     let c6 = c .before .before .before .before .before .before in
+    let c6 = c6 in
     let a = c6 .args in
     let image = a .image .now in
     going-none image (hasEntry (decode image)) (entryLine (decode image)) (a .program) _ _ _ _ (c .before .before .entry-numbers .ensures) (c .next-above .ensures)
@@ -57,6 +59,7 @@ put-entry-requires : tie.Need-put-entry-requires Inv-loop μ-loop
 unfolding entryLines
 put-entry-requires c κs =
     let c3 = c .before .before .before in
+    let c3 = c3 in
     let c4 = c3 .before in
     let c11 = c4 .before .before .before .before .before .before .before in
     let a = c11 .args in
@@ -69,6 +72,7 @@ put-entry-requires c κs =
 loop-less : tie.Need-loop-less Inv-loop μ-loop
 loop-less c =
     let c6 = c .before .before .before .before .before .before in
+    let c6 = c6 in
     let c7 = c6 .before in
     let c14 = c7 .before .before .before .before .before .before .before in
     let a = c14 .args in
@@ -81,6 +85,7 @@ loop-less c =
 loop-again : tie.Need-loop-again Inv-loop μ-loop
 loop-again c =
     let c4 = c .before .before .before .before in
+    let c4 = c4 in
     let c6 = c4 .before .before in
     let c7 = c6 .before in
     let c14 = c7 .before .before .before .before .before .before .before in
@@ -97,6 +102,7 @@ returns : tie.Need-returns Inv-loop μ-loop
 unfolding entryLines
 returns c =
     let c8 = c .before .before .before .before .before .before .before .before in
+    let c8 = c8 in
     let a = c8 .args in
     let p = c8 .pre in
     let chosen = entries (a .image .now) (p .0) (a .program) (p .1 .0 .1) in

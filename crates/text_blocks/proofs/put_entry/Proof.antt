@@ -24,6 +24,7 @@ wide-requires c κs = search needs
 entry-at-requires : tie.Need-entry-at-requires
 entry-at-requires c κs =
     let c5 = c .before .before .before .before .before in
+    let c5 = c5 in
     let p = c5 .pre .1 in
     let low = ltb-true (getD (c5 .args .notes .now) (c5 .args .place) 0) 256 (p .0 .has (c5 .args .place) (p .1 .0) ∙ p .1 .1 .0) in
     (c5 .pre .0 .long, omega (arith, c .wide .ensures, low))
@@ -34,6 +35,7 @@ entry-row-requires c κs = search needs
 append-row-requires : tie.Need-append-row-requires
 append-row-requires c κs =
     let c3 = c .before .before .before in
+    let c3 = c3 in
     let c8 = c3 .before .before .before .before .before in
     let p = c8 .pre .1 in
     let read = ap (λ (i : ℕ). getD (entriesIn (c8 .args .image .now)) i noEntry) (c3 .wide .ensures) in
@@ -46,6 +48,7 @@ same-length c = search needs
 returns : tie.Need-returns
 returns c =
     let c3 = c .before .before .before in
+    let c3 = c3 in
     let c5 = c3 .before .before in
     let c6 = c5 .before in
     let c11 = c6 .before .before .before .before .before in

@@ -20,6 +20,7 @@ number-row-requires c κs = search needs
 append-row-requires : tie.Need-append-row-requires
 append-row-requires c κs =
     let c5 = c .before .before .before .before .before in
+    let c5 = c5 in
     let is = c .before .number-row .ensures ∙ last-row (c5 .args .image .now) (c5 .args .program) _ (c5 .pre .1 .0) (c .before .before .last-at .ensures) in
     line-room _ _ is (c5 .args .at) (c5 .pre .1 .1)
 
@@ -29,6 +30,7 @@ same-length c = search needs
 returns : tie.Need-returns
 returns c =
     let c4 = c .before .before .before .before in
+    let c4 = c4 in
     let c5 = c4 .before in
     let c8 = c5 .before .before .before in
     let is = c4 .number-row .ensures ∙ last-row (c8 .args .image .now) (c8 .args .program) _ (c8 .pre .1 .0) (c5 .last-at .ensures) in

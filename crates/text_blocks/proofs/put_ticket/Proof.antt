@@ -21,6 +21,7 @@ ticket-row-requires c κs = search needs
 append-row-requires : tie.Need-append-row-requires
 append-row-requires c κs =
     let c5 = c .before .before .before .before .before in
+    let c5 = c5 in
     let place = c5 .args .place in
     let is = c .before .ticket-row .ensures ∙ ap (ticketRow (place / 64) (place / 8 % 8)) (c .before .before .ticket-at .ensures) in
     line-room _ _ is (c5 .args .at) (c5 .pre .1 .1)
@@ -31,6 +32,7 @@ same-length c = search needs
 returns : tie.Need-returns
 returns c =
     let c4 = c .before .before .before .before in
+    let c4 = c4 in
     let c5 = c4 .before in
     let c8 = c5 .before .before .before in
     let place = c8 .args .place in

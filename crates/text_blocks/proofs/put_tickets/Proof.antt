@@ -32,6 +32,7 @@ next-above-requires c κs = search needs
 loop-holds : tie.Need-loop-holds Inv-loop μ-loop
 loop-holds c =
     let c5 = c .before .before .before .before .before in
+    let c5 = c5 in
     let a = c5 .args in
     let image = a .image .now in
     going-none image (ofKind (a .kind)) (ticketLine (decode image)) (a .program) _ _ _ _ (c .before .before .kind-numbers .ensures) (c .next-above .ensures)
@@ -55,6 +56,7 @@ put-ticket-requires : tie.Need-put-ticket-requires Inv-loop μ-loop
 unfolding ticketLines
 put-ticket-requires c κs =
     let c3 = c .before .before .before in
+    let c3 = c3 in
     let c4 = c3 .before in
     let c10 = c4 .before .before .before .before .before .before in
     let a = c10 .args in
@@ -66,6 +68,7 @@ put-ticket-requires c κs =
 loop-less : tie.Need-loop-less Inv-loop μ-loop
 loop-less c =
     let c6 = c .before .before .before .before .before .before in
+    let c6 = c6 in
     let c7 = c6 .before in
     let c13 = c7 .before .before .before .before .before .before in
     let a = c13 .args in
@@ -78,6 +81,7 @@ loop-less c =
 loop-again : tie.Need-loop-again Inv-loop μ-loop
 loop-again c =
     let c4 = c .before .before .before .before in
+    let c4 = c4 in
     let c6 = c4 .before .before in
     let c7 = c6 .before in
     let c13 = c7 .before .before .before .before .before .before in
@@ -94,6 +98,7 @@ returns : tie.Need-returns Inv-loop μ-loop
 unfolding ticketLines
 returns c =
     let c7 = c .before .before .before .before .before .before .before in
+    let c7 = c7 in
     let a = c7 .args in
     let p = c7 .pre in
     let chosen = tickets (a .image .now) (a .kind) (p .1 .0 .1 .0) (p .0) (a .program) (p .1 .0 .0) in

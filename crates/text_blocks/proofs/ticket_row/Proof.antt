@@ -38,30 +38,35 @@ returns : tie.Need-returns
 unfolding saidBy
 returns c =
     let c4 = c .before .before .before .before in
+    let c4 = c4 in
     c .number-row .ensures ∙ row-by (c4 .args .pad) (c4 .args .program) (c4 .args .k) Free (c .before .enum-told .given .1)
 
 returns-2 : tie.Need-returns-2
 unfolding saidBy
 returns-2 c =
     let c4 = c .before .before .before .before in
+    let c4 = c4 in
     c .grant-row .ensures ∙ row-by (c4 .args .pad) (c4 .args .program) (c4 .args .k) Taken (c .before .enum-told2 .given .1)
 
 returns-3 : tie.Need-returns-3
 unfolding saidBy
 returns-3 c =
     let c4 = c .before .before .before .before in
+    let c4 = c4 in
     c .grant-row2 .ensures ∙ row-by (c4 .args .pad) (c4 .args .program) (c4 .args .k) Received (c .before .enum-told3 .given .1)
 
 returns-4 : tie.Need-returns-4
 unfolding saidBy
 returns-4 c =
     let c4 = c .before .before .before .before in
+    let c4 = c4 in
     c .grant-row3 .ensures ∙ row-by (c4 .args .pad) (c4 .args .program) (c4 .args .k) Child (c .before .enum-told4 .given .1)
 
 returns-5 : tie.Need-returns-5
 unfolding saidBy
 returns-5 c =
     let c3 = c .before .before .before in
+    let c3 = c3 in
     row-by (c3 .args .pad) (c3 .args .program) (c3 .args .k) Recall (c .enum-told5 .given .1)
 
 pub ticket-row-spec : {M : Type 1} → statement M

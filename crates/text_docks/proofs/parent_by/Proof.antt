@@ -1,8 +1,6 @@
-use Prim.Native.Nat.{ℕ, _+_, _-_, _*_, _≤_, _<_}
-use mathlib.Core.Path.{_≡_, refl, sym, ap, subst, _∙_}
-use native.Mathlib.Omega.{arith}
+use Prim.Native.Nat.{_-_}
+use mathlib.Core.Path.{sym, ap}
 use borrow.Author.Needs.{needs}
-use lib.ListN.{length, getD, set}
 use Rattle.text_docks.proofs.parent_by.Statement.{statement}
 use Rattle.text_docks.proofs.parent_by.Tie as tie
 use Rattle.text_docks.proofs.parent_by.Reads as reads
@@ -10,7 +8,6 @@ use Rattle.text_docks.proofs.parent_by.Lts as lts
 use Rattle.tables.proofs.Name.none.Reads as none-reads
 use Rattle.tables.specs.Chains.{parentBy}
 use Rattle.tables.specs.declared.Kind.{Kind}
-use Rattle.tables.specs.declared.Kind.the-variants.{Recall}
 
 enum-told : tie.Need-enum-told
 enum-told c = search needs

@@ -1,8 +1,7 @@
-use Prim.Native.Nat.{ℕ, _+_, _-_, _*_, _≤_, _<_}
-use mathlib.Core.Path.{_≡_, refl, sym, ap, subst, _∙_}
-use native.Mathlib.Omega.{arith}
+use Prim.Native.Nat.{_-_}
+use mathlib.Core.Path.{subst}
 use borrow.Author.Needs.{needs}
-use lib.ListN.{length, getD, set}
+use lib.ListN.{length, set}
 use Rattle.text_docks.proofs.put_dock.Statement.{statement}
 use Rattle.text_docks.proofs.put_dock.Tie as tie
 use Rattle.text_docks.proofs.put_dock.Reads as reads
@@ -13,8 +12,7 @@ use Rattle.image.proofs.RoundTrip.{image-whole}
 use Rattle.text_docks.specs.Docks.{withDock}
 use Rattle.image_write.specs.Shows.{Shows}
 use Rattle.image_read.specs.Places.{ticketsIn, lastsIn, entriesIn}
-use Rattle.tables.specs.declared.{Name.Name, Ticket.Ticket}
-use mathlib.Core.List.{List}
+use Rattle.tables.specs.declared.{Name.Name}
 
 cast-t11 : tie.Need-cast-t11
 cast-t11 c = search needs
@@ -33,9 +31,12 @@ same-length c = search needs
 
 returns : tie.Need-returns
 returns c =
-    let a = c .before .before .before .before .before .before .before .before .before .args in
+    let c6 = c .before .before .before .before .before .before in
+    let c9 = c6 .before .before .before in
+    let a = c9 .args in
     let image = a .image .now in
-    subst (λ (dock : Name). Shows (c .before .before .put-ticket .last .0) (set (ticketsIn image) (a .place) (withDock (a .k) dock)) (lastsIn image) (entriesIn image)) (c .before .before .before .before .before .before .head-of .ensures)
+    subst (λ (dock : Name). Shows (c .before .before .put-ticket .last .0) (set (ticketsIn image) (a .place) (withDock (a .k) dock)) (lastsIn image)
+    (entriesIn image)) (c6 .head-of .ensures)
     (c .before .before .put-ticket .ensures)
 
 pub put-dock-spec : {M : Type 1} → statement M

@@ -1,8 +1,6 @@
-use Prim.Native.Nat.{ℕ, _+_, _-_, _*_, _≤_, _<_}
-use mathlib.Core.Path.{_≡_, refl, sym, ap, subst, _∙_}
-use native.Mathlib.Omega.{arith}
+use Prim.Native.Nat.{_-_}
+use mathlib.Core.Path.{_∙_}
 use borrow.Author.Needs.{needs}
-use lib.ListN.{length, getD, set}
 use Rattle.text_fill.proofs.dock_in.Statement.{statement}
 use Rattle.text_fill.proofs.dock_in.Tie as tie
 use Rattle.text_fill.proofs.dock_in.Reads as reads

@@ -1,8 +1,5 @@
-use Prim.Native.Nat.{ℕ, _+_, _-_, _*_, _≤_, _<_}
-use mathlib.Core.Path.{_≡_, refl, sym, ap, subst, _∙_}
-use native.Mathlib.Omega.{arith}
+use Prim.Native.Nat.{_-_}
 use borrow.Author.Needs.{needs}
-use lib.ListN.{length, getD, set}
 use Rattle.text_fill.proofs.entry_in.Statement.{statement}
 use Rattle.text_fill.proofs.entry_in.Tie as tie
 use Rattle.text_fill.proofs.entry_in.Reads as reads
@@ -21,7 +18,8 @@ name-in-requires c κs = search needs
 returns : tie.Need-returns
 unfolding entryFrom
 returns c =
-    let r = c .before .before .before .args .r in
+    let c3 = c .before .before .before in
+    let r = c3 .args .r in
     λ i. record { live = true; name = c .name-in .ensures i; parent = r .other; first = r .first; count = r .count; rights = c .before .make .ensures i }
 
 pub entry-in-spec : {M : Type 1} → statement M

@@ -1,8 +1,4 @@
-use Prim.Native.Nat.{ℕ, _+_, _-_, _*_, _≤_, _<_}
-use mathlib.Core.Path.{_≡_, refl, sym, ap, subst, _∙_}
-use native.Mathlib.Omega.{arith}
-use borrow.Author.Needs.{needs}
-use lib.ListN.{length, getD, set}
+use Prim.Native.Nat.{_-_}
 use Rattle.text_fill.proofs.most_of.Statement.{statement}
 use Rattle.text_fill.proofs.most_of.Tie as tie
 use Rattle.text_fill.proofs.most_of.Reads as reads

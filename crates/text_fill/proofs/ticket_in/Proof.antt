@@ -1,8 +1,5 @@
-use Prim.Native.Nat.{ℕ, _+_, _-_, _*_, _≤_, _<_}
-use mathlib.Core.Path.{_≡_, refl, sym, ap, subst, _∙_}
-use native.Mathlib.Omega.{arith}
+use Prim.Native.Nat.{_-_}
 use borrow.Author.Needs.{needs}
-use lib.ListN.{length, getD, set}
 use Rattle.text_fill.proofs.ticket_in.Statement.{statement}
 use Rattle.text_fill.proofs.ticket_in.Tie as tie
 use Rattle.text_fill.proofs.ticket_in.Reads as reads
@@ -24,9 +21,11 @@ dock-in-requires c κs = search needs
 returns : tie.Need-returns
 unfolding ticketFrom
 returns c =
-    let r = c .before .before .before .before .args .r in
+    let c3 = c .before .before .before in
+    let c4 = c3 .before in
+    let r = c4 .args .r in
     λ i. record {
-      kind = c .before .before .before .kind-of .ensures i;
+      kind = c3 .kind-of .ensures i;
       number = r .number;
       own = r .own;
       other = r .other;

@@ -1,8 +1,8 @@
-use Prim.Native.Nat.{ℕ, _+_, _-_, _*_, _≤_, _<_}
-use mathlib.Core.Path.{_≡_, refl, sym, ap, subst, _∙_}
+use Prim.Native.Nat.{ℕ, _-_, _≤_, _<_}
+use mathlib.Core.Path.{_≡_, sym}
 use native.Mathlib.Omega.{arith}
 use borrow.Author.Needs.{needs}
-use lib.ListN.{length, getD, set}
+use lib.ListN.{getD}
 use Rattle.text_load.proofs.all_programs.Statement.{statement}
 use Rattle.text_load.proofs.all_programs.Tie as tie
 use Rattle.text_load.proofs.all_programs.Reads as reads
@@ -33,12 +33,16 @@ mul-if1 : tie.Need-mul-if1 Inv-loop μ-loop
 mul-if1 c = search needs
 
 shared-slice-read-if1 : tie.Need-shared-slice-read-if1 Inv-loop μ-loop
-shared-slice-read-if1 c = omega (arith, c .before .before .before .pre, c .before .loop-test .taken)
+shared-slice-read-if1 c =
+    let c3 = c .before .before .before in
+    omega (arith, c3 .pre, c .before .loop-test .taken)
 
 returns : tie.Need-returns Inv-loop μ-loop
 unfolding programs
 returns c =
-    every-broken 32 (λ i. ltb 0 (getD (c .before .before .before .before .args .tally .now) i 0)) (c .before .before .before .loop .i) (c .before .before .loop-test .taken)
+    let c3 = c .before .before .before in
+    let c4 = c3 .before in
+    every-broken 32 (λ i. ltb 0 (getD (c4 .args .tally .now) i 0)) (c3 .loop .i) (c .before .before .loop-test .taken)
     (none-counted _ (c .if1 .taken))
 
 add-i : tie.Need-add-i Inv-loop μ-loop
@@ -48,10 +52,11 @@ loop-less : tie.Need-loop-less Inv-loop μ-loop
 loop-less c = omega (arith, c .before .before .loop-test .taken)
 
 loop-again : tie.Need-loop-again Inv-loop μ-loop
-loop-again c = (
-  omega (arith, c .before .before .loop-test .taken),
-  so-far (c .before .before .before .loop .i) (c .before .before .before .loop .inv .1) (lt-ltb 0 _ (positive _ (c .if1 .left))),
-)
+loop-again c =
+    let c3 = c .before .before .before in (
+      omega (arith, c .before .before .loop-test .taken),
+      so-far (c3 .loop .i) (c3 .loop .inv .1) (lt-ltb 0 _ (positive _ (c .if1 .left))),
+    )
 
 returns-2 : tie.Need-returns-2 Inv-loop μ-loop
 unfolding programs

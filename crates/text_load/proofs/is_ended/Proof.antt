@@ -1,14 +1,10 @@
-use Prim.Native.Nat.{ℕ, _+_, _-_, _*_, _≤_, _<_}
-use mathlib.Core.Path.{_≡_, refl, sym, ap, subst, _∙_}
-use native.Mathlib.Omega.{arith}
+use Prim.Native.Nat.{_-_}
 use borrow.Author.Needs.{needs}
-use lib.ListN.{length, getD, set}
 use Rattle.text_load.proofs.is_ended.Statement.{statement}
 use Rattle.text_load.proofs.is_ended.Tie as tie
 use Rattle.text_load.proofs.is_ended.Reads as reads
 use Rattle.text_load.proofs.is_ended.Lts as lts
 use Rattle.text_load.proofs.WholeText.{not-ended, ended-by}
-use lib.Dec.{eqb}
 
 returns : tie.Need-returns
 returns c = not-ended (c .before .args .text .now) (c .if1 .taken)

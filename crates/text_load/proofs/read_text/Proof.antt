@@ -1,8 +1,8 @@
-use Prim.Native.Nat.{ℕ, _+_, _-_, _*_, _≤_, _<_}
-use mathlib.Core.Path.{_≡_, refl, sym, ap, subst, _∙_}
+use Prim.Native.Nat.{_-_}
+use mathlib.Core.Path.{refl}
 use native.Mathlib.Omega.{arith}
 use borrow.Author.Needs.{needs}
-use lib.ListN.{length, getD, set}
+use lib.ListN.{length}
 use Rattle.text_load.proofs.read_text.Statement.{statement}
 use Rattle.text_load.proofs.read_text.Tie as tie
 use Rattle.text_load.proofs.read_text.Reads as reads
@@ -23,21 +23,31 @@ first-line-requires c κs = search needs
 
 returns : tie.Need-returns
 unfolding columnNames bytes
-returns c = other-names (c .before .before .before .before .before .before .args .text .now) _ (c .before .before .first-line .ensures) (failed refl (c .if1 .taken)) _
+returns c =
+    let c6 = c .before .before .before .before .before .before in
+    other-names (c6 .args .text .now) _ (c .before .before .first-line .ensures) (failed refl (c .if1 .taken)) _
 
 is-ended-requires : tie.Need-is-ended-requires
 is-ended-requires c κs = search needs
 
 returns-2 : tie.Need-returns-2
-returns-2 c = no-last-byte (c .before .before .before .before .before .before .before .before .args .text .now) (failed (c .before .is-ended .ensures) (c .if2 .taken)) _
+returns-2 c =
+    let c8 = c .before .before .before .before .before .before .before .before in
+    no-last-byte (c8 .args .text .now) (failed (c .before .is-ended .ensures) (c .if2 .taken)) _
 
 add-read-lines : tie.Need-add-read-lines
 unfolding columnNames bytes
-add-read-lines c = omega (arith, start-inside (c .before .before .before .before .before .before .before .before .before .before .args .text .now) _ (c .before .before .before .before .before .before .first-line .ensures), c .before .before .before .before .before .before .before .before .before .before .good .1 .0 .1)
+add-read-lines c =
+    let c6 = c .before .before .before .before .before .before in
+    let c10 = c6 .before .before .before .before in
+    omega (arith, start-inside (c10 .args .text .now) _ (c6 .first-line .ensures), c10 .good .1 .0 .1)
 
 read-lines-requires : tie.Need-read-lines-requires
 unfolding columnNames bytes
-read-lines-requires c κs = (c .before .before .before .before .before .before .before .before .before .before .pre, start-inside (c .before .before .before .before .before .before .before .before .before .before .args .text .now) _ (c .before .before .before .before .before .before .first-line .ensures))
+read-lines-requires c κs =
+    let c6 = c .before .before .before .before .before .before in
+    let c10 = c6 .before .before .before .before in
+    (c10 .pre, start-inside (c10 .args .text .now) _ (c6 .first-line .ensures))
 
 same-length : tie.Need-same-length
 same-length c = search needs
@@ -45,7 +55,13 @@ same-length c = search needs
 returns-3 : tie.Need-returns-3
 unfolding columnNames bytes
 returns-3 c =
-    read-under (c .before .before .before .before .before .before .before .before .before .before .before .before .before .args .text .now) _ (c .before .before .before .before .before .before .before .before .before .first-line .ensures) (passed refl (c .before .before .before .before .before .before .before .if1 .left)) (passed (c .before .before .before .before .before .before .is-ended .ensures) (c .before .before .before .before .before .if2 .left)) _ _ (c .before .before .read-lines .ensures)
+    let c5 = c .before .before .before .before .before in
+    let c6 = c5 .before in
+    let c7 = c6 .before in
+    let c9 = c7 .before .before in
+    let c13 = c9 .before .before .before .before in
+    read-under (c13 .args .text .now) _ (c9 .first-line .ensures) (passed refl (c7 .if1 .left)) (passed (c6 .is-ended .ensures) (c5 .if2 .left)) _ _
+    (c .before .before .read-lines .ensures)
 
 pub read-text-spec : {M : Type 1} → statement M
 read-text-spec =

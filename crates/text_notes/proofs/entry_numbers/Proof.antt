@@ -35,6 +35,7 @@ add-noted-number c = search needs
 noted-number-requires : tie.Need-noted-number-requires Inv-loop μ-loop
 noted-number-requires c κs =
     let c4 = c .before .before .before .before in
+    let c4 = c4 in
     (c4 .pre .0, (c4 .pre .1 .0, omega (arith, c4 .pre .1 .1, c .loop-test .taken)))
 
 mul-numbers : tie.Need-mul-numbers Inv-loop μ-loop
@@ -52,6 +53,7 @@ loop-less c = search needs
 loop-again : tie.Need-loop-again Inv-loop μ-loop
 loop-again c =
     let c5 = c .before .before .before .before .before in
+    let c5 = c5 in
     let l = c .before .before .loop in
     (omega arith, one-more 0 8 (wanted (c5 .args .image .now) (c5 .args .program)) (l .i) _ _ (l .inv .1) (omega arith) (c .noted-number .ensures))
 
@@ -59,6 +61,7 @@ returns : tie.Need-returns Inv-loop μ-loop
 unfolding numbersIn
 returns c =
     let c4 = c .before .before .before .before in
+    let c4 = c4 in
     let l = c .before .loop in
     tabulated 0 8 (l .i) (wanted (c4 .args .image .now) (c4 .args .program)) _ (omega arith) (l .inv .1)
 

@@ -23,6 +23,7 @@ loop-holds c = notes-none (c .before .before .args .image .now) (c .before .befo
 live-at-requires : tie.Need-live-at-requires Inv-loop μ-loop
 live-at-requires c κs =
     let c4 = c .before .before .before .before in
+    let c4 = c4 in
     (c4 .pre .0 .long, c .loop-test .taken)
 
 add-i : tie.Need-add-i Inv-loop μ-loop
@@ -31,11 +32,13 @@ add-i c = search needs
 entry-at-requires : tie.Need-entry-at-requires Inv-loop μ-loop
 entry-at-requires c κs =
     let c6 = c .before .before .before .before .before .before in
+    let c6 = c6 in
     (c6 .pre .0 .long, c .before .before .loop-test .taken)
 
 ticket-place-requires : tie.Need-ticket-place-requires Inv-loop μ-loop
 ticket-place-requires c κs =
     let c7 = c .before .before .before .before .before .before .before in
+    let c7 = c7 in
     c7 .pre .0 .long
 
 cast-notes : tie.Need-cast-notes Inv-loop μ-loop
@@ -44,6 +47,7 @@ cast-notes c = search needs
 mul-notes : tie.Need-mul-notes Inv-loop μ-loop
 mul-notes c =
     let c3 = c .before .before .before in
+    let c3 = c3 in
     let c4 = c3 .before in
     let c5 = c4 .before in
     let c8 = c5 .before .before .before in
@@ -56,6 +60,7 @@ mul-notes c =
 slice-write-notes : tie.Need-slice-write-notes Inv-loop μ-loop
 slice-write-notes c =
     let c3 = c .before .before .before in
+    let c3 = c3 in
     let c4 = c3 .before in
     let c5 = c4 .before in
     let c8 = c5 .before .before .before in
@@ -71,6 +76,7 @@ loop-less c = search needs
 loop-again : tie.Need-loop-again Inv-loop μ-loop
 loop-again c =
     let c3 = c .before .before .before in
+    let c3 = c3 in
     let c4 = c3 .before in
     let c5 = c4 .before in
     let c8 = c5 .before .before .before in
@@ -86,6 +92,7 @@ loop-less-2 c = search needs
 loop-again-2 : tie.Need-loop-again-2 Inv-loop μ-loop
 loop-again-2 c =
     let c3 = c .before .before .before in
+    let c3 = c3 in
     let c6 = c3 .before .before .before in
     let image = c6 .args .image .now in
     let i = c3 .loop .i in
@@ -98,6 +105,7 @@ same-length c = search needs
 returns : tie.Need-returns Inv-loop μ-loop
 returns c =
     let c4 = c .before .before .before .before in
+    let c4 = c4 in
     notes-end (c4 .args .image .now) (c4 .pre .0) _ (c .before .loop .i) (c .before .loop .inv) (c .loop-test .left)
 
 pub note-entries-spec : {M : Type 1} → statement M

@@ -16,18 +16,21 @@ returns : tie.Need-returns
 unfolding numberIf
 returns c =
     let c4 = c .before .before .before .before in
+    let c4 = c4 in
     let p = c4 .pre .1 in
     rw (sym (p .0 .has (c4 .args .place) (p .1)) ∙ le-ltb _ 256 (c .if1 .taken))
 
 ticket-at-requires : tie.Need-ticket-at-requires
 ticket-at-requires c κs =
     let c4 = c .before .before .before .before in
+    let c4 = c4 in
     (c4 .pre .0 .long, c4 .pre .1 .1)
 
 returns-2 : tie.Need-returns-2
 unfolding numberIf
 returns-2 c =
     let c5 = c .before .before .before .before .before in
+    let c5 = c5 in
     let p = c5 .pre .1 in
     rw (sym (p .0 .has (c5 .args .place) (p .1)) ∙ lt-ltb _ 256 (c .before .if1 .left)) (ap (λ (k : Ticket). k .number) (c .ticket-at .ensures))
 

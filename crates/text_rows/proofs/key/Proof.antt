@@ -1,6 +1,4 @@
-use Prim.Native.Nat.{ℕ, _+_, _-_, _*_, _≤_, _<_}
-use mathlib.Core.Path.{_≡_, refl, sym, ap, subst, _∙_}
-use native.Mathlib.Omega.{arith}
+use Prim.Native.Nat.{_-_}
 use borrow.Author.Needs.{needs}
 use Rattle.saved.specs.Row.{key}
 use Rattle.saved.proofs.RowLaws.{ranges}
@@ -33,7 +31,8 @@ add-head-2 c = search needs
 
 mul-result : tie.Need-mul-result
 mul-result c =
-    let s = c .before .before .before in
+    let c3 = c .before .before .before in
+    let s = c3 in
     let k = ranges (s .args .r) (s .pre) in
     search (needs, k .kind, k .pad, k .program)
 
@@ -42,7 +41,8 @@ wide-requires-4 c κs = search needs
 
 add-result : tie.Need-add-result
 add-result c =
-    let s = c .before .before .before .before in
+    let c4 = c .before .before .before .before in
+    let s = c4 in
     let k = ranges (s .args .r) (s .pre) in
     search (needs, k .kind, k .pad, k .program)
 

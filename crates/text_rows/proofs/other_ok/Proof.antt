@@ -1,8 +1,7 @@
-use mathlib.Core.Path.{sym, _∙_, ap}
-use mathlib.Core.Bool.{Bool}
+use mathlib.Core.Path.{sym, _∙_}
 use borrow.Author.Tests.{not-true, not-false}
 use borrow.Author.Needs.{needs}
-use Rattle.saved.specs.Row.{otherOk, zeroUnless}
+use Rattle.saved.specs.Row.{otherOk}
 use Rattle.text_rows.proofs.other_ok.Statement.{statement}
 use Rattle.text_rows.proofs.other_ok.Tie as tie
 
@@ -15,7 +14,8 @@ zero-unless-requires c κs = search needs
 returns : tie.Need-returns
 unfolding otherOk
 returns c =
-    let u = c .before .before .before .uses-other .ensures in
+    let c3 = c .before .before .before in
+    let u = c3 .uses-other .ensures in
     rw (sym u, sym (c .before .zero-unless .ensures) ∙ not-true _ (c .if1 .taken))
 
 zero-unless-requires-2 : tie.Need-zero-unless-requires-2

@@ -1,10 +1,8 @@
 use mathlib.Core.Path.{sym, _∙_}
 use borrow.Author.Tests.{not-true, not-false}
 use Rattle.text_rows.proofs.RowReading.{no-values, formed}
-use Prim.Native.Nat.{ℕ, _+_, _-_, _*_, _≤_, _<_}
-use native.Mathlib.Omega.{arith}
+use Prim.Native.Nat.{_-_}
 use borrow.Author.Needs.{needs}
-use lib.ListN.{length, getD, set}
 use Rattle.text_rows.proofs.read_row.Statement.{statement}
 use Rattle.text_rows.proofs.read_row.Tie as tie
 use Rattle.text_rows.proofs.read_row.Reads as reads
@@ -53,7 +51,8 @@ array-read-t38 c = search needs
 
 returns : tie.Need-returns
 returns c =
-    no-values (c .before .before .before .before .before .args .line .now) _ (sym (c .before .before .read-values .ensures .0) ∙ not-true _ (c .if1 .taken))
+    let c5 = c .before .before .before .before .before in
+    no-values (c5 .args .line .now) _ (sym (c .before .before .read-values .ensures .0) ∙ not-true _ (c .if1 .taken))
 
 row-ok-requires : tie.Need-row-ok-requires
 row-ok-requires c κs = search needs
@@ -61,6 +60,7 @@ row-ok-requires c κs = search needs
 returns-2 : tie.Need-returns-2
 returns-2 c =
     let c3 = c .before .before .before in
+    let c3 = c3 in
     let v = c3 .read-values in
     let form = not-false _ (c .before .if1 .left) in
     formed (c3 .before .before .before .args .line .now) (v .last .1 .0) (rw form at (v .ensures .1)) (sym (v .ensures .0) ∙ form) _ (c .row-ok .ensures)

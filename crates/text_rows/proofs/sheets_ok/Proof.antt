@@ -1,8 +1,7 @@
-use mathlib.Core.Path.{sym, _∙_, ap}
-use mathlib.Core.Bool.{Bool}
+use mathlib.Core.Path.{sym, _∙_}
 use borrow.Author.Tests.{not-true, not-false}
 use borrow.Author.Needs.{needs}
-use Rattle.saved.specs.Row.{sheetsOk, zeroUnless}
+use Rattle.saved.specs.Row.{sheetsOk}
 use Rattle.text_rows.proofs.sheets_ok.Statement.{statement}
 use Rattle.text_rows.proofs.sheets_ok.Tie as tie
 

@@ -32,6 +32,7 @@ put-saved-requires c κs = search needs
 returns-2 : tie.Need-returns-2
 returns-2 c =
     let c5 = c .before .before .before .before .before in
+    let c5 = c5 in
     ap (λ (n : ℕ). leb n (c5 .args .room)) (measured _ _ _ _ (c .before .put-saved .ensures))
 
 pub fits-spec : {M : Type 1} → statement M

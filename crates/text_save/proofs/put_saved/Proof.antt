@@ -14,6 +14,7 @@ put-rows-requires : tie.Need-put-rows-requires
 unfolding columnNames bytes
 put-rows-requires c κs =
     let c3 = c .before .before .before in
+    let c3 = c3 in
     let c8 = c3 .before .before .before .before .before in
     let c9 = c8 .before in
     let room = lines-room (c9 .args .image .now) (c9 .pre) (λ i. omega (arith, c8 .shared-slice-known .given i)) _ _ _ (c3 .append .ensures) in
@@ -26,6 +27,7 @@ returns : tie.Need-returns
 unfolding columnNames bytes
 returns c =
     let c6 = c .before .before .before .before .before .before in
+    let c6 = c6 in
     let c11 = c6 .before .before .before .before .before in
     let c12 = c11 .before in
     put-whole (c12 .args .image .now) (c12 .pre) (λ i. omega (arith, c11 .shared-slice-known .given i)) _ _ _ (c6 .append .ensures) _ _

@@ -10,6 +10,7 @@ use Rattle.text_save.proofs.save_lent.Tie as tie
 returns : tie.Need-returns
 returns c =
     let c3 = c .before .before .before in
+    let c3 = c3 in
     let a = c3 .args in
     other-tables (saveBuffers (a .tables .now) (a .output .now)) (c .if1 .taken)
 
@@ -19,6 +20,7 @@ image-in-order-requires c κs = search needs
 returns-2 : tie.Need-returns-2
 returns-2 c =
     let c5 = c .before .before .before .before .before in
+    let c5 = c5 in
     let a = c5 .args in
     let bad = failed (tables-told (a .tables .now) (c .before .image-in-order .ensures)) (c .if2 .taken) in
     bad-tables (saveBuffers (a .tables .now) (a .output .now)) (c .before .before .if1 .left) bad
@@ -26,12 +28,14 @@ returns-2 c =
 fits-requires : tie.Need-fits-requires
 fits-requires c κs =
     let c5 = c .before .before .before .before .before in
+    let c5 = c5 in
     let a = c5 .args in
     ordered (a .tables .now) (c .before .before .if1 .left) (passed (tables-told (a .tables .now) (c .before .image-in-order .ensures)) (c .if2 .left))
 
 returns-3 : tie.Need-returns-3
 returns-3 c =
     let c3 = c .before .before .before in
+    let c3 = c3 in
     let c4 = c3 .before in
     let c7 = c4 .before .before .before in
     let a = c7 .args in
@@ -41,6 +45,7 @@ returns-3 c =
 put-saved-requires : tie.Need-put-saved-requires
 put-saved-requires c κs =
     let c3 = c .before .before .before in
+    let c3 = c3 in
     let c4 = c3 .before in
     let c5 = c4 .before in
     let c8 = c5 .before .before .before in
@@ -53,6 +58,7 @@ same-length c = search needs
 returns-4 : tie.Need-returns-4
 returns-4 c =
     let c4 = c .before .before .before .before in
+    let c4 = c4 in
     let c5 = c4 .before in
     let c6 = c5 .before in
     let c7 = c6 .before in
