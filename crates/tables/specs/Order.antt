@@ -71,7 +71,7 @@ entryNamesOk t = noTwo (λ e. e .live) (λ e other. eqName (e .name) (other .nam
 abbrev pub underStore : Entry → Bool
 underStore e = isNone (e .parent)
 
--- a parent with number 0 is the store where pad and program are 0 too, and else nothing
+-- "zeros meaning the store" (02, 4/13): a parent with number 0 is the store where pad and program are 0 too, and else nothing
 unfoldable pub grantOk : Entry → Ticket → Bool
 grantOk e k =
     cond (underStore e) (eqName (e .parent) noName && isTaken (k .kind)) (isReceived (k .kind))
