@@ -3,7 +3,6 @@ use Prim.Native.Nat.{ℕ, _/_, _%_, _<_}
 use native.Mathlib.Omega.{arith}
 use mathlib.Core.Path.{_≡_, sym, ap, subst, _∙_}
 use mathlib.Core.Bool.{true}
-use mathlib.Core.List.{List}
 use Rattle.lists.specs.Members.{In}
 use Rattle.lists.proofs.Rising.{sorted-in, sorted-out, is-sorted}
 use Rattle.lists.proofs.KeyedMembers.{found-member}

@@ -2,8 +2,7 @@
 ghost use Prim.Native.Nat.{_<_};
 ghost use mathlib.Core.Path.{_≡_};
 ghost use mathlib.Core.Bool.{true};
-ghost use lib.ListN.{length, getD, set};
-ghost use Rattle.tables.specs.Names.{free};
+ghost use lib.ListN.{length, set};
 ghost use Rattle.tables.specs.Lookup.{lookup};
 ghost use Rattle.tables.specs.Chains.{parentBy, parentOf, endOf, chainHead};
 ghost use Rattle.image.specs.Layout.{imageSize};

@@ -5,7 +5,7 @@ ghost use mathlib.Core.Path.{_≡_};
 ghost use mathlib.Core.Bool.{true, cond};
 ghost use mathlib.Core.List.{List, _∷_};
 ghost use lib.Dec.{ltb, eqb};
-ghost use lib.ListN.{length, getD, set};
+ghost use lib.ListN.{length, getD};
 ghost use Rattle.tables.specs.Names.{noName};
 ghost use Rattle.image.specs.Image.{isImage};
 ghost use Rattle.saved.specs.declared.Row.{Row};

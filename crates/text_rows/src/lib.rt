@@ -1,7 +1,6 @@
 // A line of the saved text: read and tested by itself, its place in the order of lines, and written.
-ghost use Prim.Native.Nat.{_≤_};
 ghost use mathlib.Core.Path.{_≡_};
-ghost use mathlib.Core.Bool.{true, _&&_, _||_};
+ghost use mathlib.Core.Bool.{true, _||_};
 ghost use lib.Dec.{eqb};
 ghost use Rattle.lists.specs.Tests.{between};
 ghost use Rattle.tables.specs.Names.{isProgram};
