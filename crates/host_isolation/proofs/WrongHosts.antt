@@ -12,7 +12,7 @@ use lib.Dec.{eqb}
 use lib.ListN.{getD, replicate}
 use borrow.Author.Tests.{eq-eqb, ne-eqb}
 use Rattle.lists.specs.Tests.{implies, between}
-use Rattle.lists.specs.Lists.{firstIndex, all, some, noTwo, allAt, someAt, mapAt, least}
+use Rattle.lists.specs.Lists.{firstIndex, all, some, keep, noTwo, allAt, someAt, mapAt, least}
 use Rattle.lists.specs.Parts.{joined}
 use Rattle.lists.proofs.Tests as Tests
 use Rattle.lists.proofs.Tests.{Case, fail, case}
@@ -23,6 +23,7 @@ use Rattle.tables.specs.Chains.{reaches, endOf}
 use Rattle.tables.specs.Sheets.{apart, inside, outside, isFreeRun, lowestRun, hasRun}
 use Rattle.tables.specs.Order.{everyTicketOf, everyTicket, someTicketOf, someTicket, everyEntry, numbersOk, t1, spanOk, t2, parentOk, childOk, t3, t4, entryNamesOk, grantOk, parentEntryOk, entryOk, rootsOk, t5, recallParentOk, isChildOf, farTargetOk, targetOk, recallOk, t6, inOrder}
 use Rattle.tables.specs.Change.{isFree, hasPlace, withTicket, withProgram, give, isSpare, putEntry, dropTicket, dropInProgram, dropInPad, dropTickets, dropEntry, dropEntries}
+use Rattle.best_fit.specs.BestFit.{runAt, smallestBelow, bestFit}
 use Rattle.machine.specs.State.{answerOf, accepted, refused, withTables, sheetAt, putSheets, clearSheets, State, Outcome}
 use Rattle.machine.specs.Refusal.{_when_else_, isSpent}
 use Rattle.machine.specs.Operation.{operationOf, usedBy, fieldOk, fieldsOk}
@@ -137,9 +138,9 @@ record Computed : Type 0 where
   four : gone .answer ≡ answerOf 4 0 0
 
 computed : Computed
-unfolding implies between firstIndex all some noTwo allAt someAt mapAt least within
+unfolding implies between firstIndex all some keep noTwo allAt someAt mapAt least within
     eqName isProgram sameProgram emptyTables hasNumber ticketIn lookup isNamed entryIn reaches endOf
-    apart inside outside isFreeRun lowestRun hasRun
+    apart inside outside isFreeRun lowestRun hasRun runAt smallestBelow bestFit
     everyTicketOf everyTicket someTicketOf someTicket everyEntry numbersOk t1 spanOk t2 parentOk childOk t3 t4
     entryNamesOk grantOk parentEntryOk entryOk rootsOk t5 recallParentOk isChildOf farTargetOk targetOk recallOk t6 inOrder
     isFree hasPlace withTicket withProgram give isSpare putEntry dropTicket dropInProgram dropInPad dropTickets dropEntry dropEntries

@@ -11,7 +11,7 @@ use mathlib.Core.List.{List, [], _∷_}
 use lib.Dec.{eqb}
 use lib.ListN.{getD, replicate}
 use Rattle.lists.specs.Tests.{implies, between}
-use Rattle.lists.specs.Lists.{firstIndex, all, some, noTwo, allAt, someAt, least}
+use Rattle.lists.specs.Lists.{firstIndex, all, some, keep, noTwo, allAt, someAt, least}
 use Rattle.rights.specs.Rules.{within}
 use Rattle.tables.specs.declared.Name.{Name}
 use Rattle.tables.specs.Names.{nameOf, eqName, isProgram, sameProgram, emptyTables}
@@ -20,6 +20,7 @@ use Rattle.tables.specs.Chains.{reaches, endOf}
 use Rattle.tables.specs.Sheets.{apart, inside, outside, isFreeRun, lowestRun, hasRun}
 use Rattle.tables.specs.Order.{everyTicketOf, everyTicket, someTicketOf, someTicket, everyEntry, numbersOk, t1, spanOk, t2, parentOk, childOk, t3, t4, entryNamesOk, grantOk, parentEntryOk, entryOk, rootsOk, t5, recallParentOk, isChildOf, farTargetOk, targetOk, recallOk, t6, inOrder}
 use Rattle.tables.specs.Change.{isFree, hasPlace, withTicket, withProgram, give, isSpare, putEntry}
+use Rattle.best_fit.specs.BestFit.{runAt, smallestBelow, bestFit}
 use Rattle.machine.specs.declared.{Request.Request, Answer.Answer}
 use Rattle.machine.specs.State.{answerOf, accepted, refused, withTables, sheetAt, putSheets, clearSheets}
 use Rattle.machine.specs.Refusal.{_when_else_, isSpent}
@@ -86,9 +87,9 @@ record Computed : Type 0 where
   lies-beside : lookup (after emptyDock (othersTake 1 ∷ take ∷ []) .tables) (nameOf 0 0 1) .first ≡ 1
 
 computed : Computed
-unfolding implies between firstIndex all some noTwo allAt someAt least within
+unfolding implies between firstIndex all some keep noTwo allAt someAt least within
     eqName isProgram sameProgram emptyTables hasNumber ticketIn lookup isNamed entryIn reaches endOf
-    apart inside outside isFreeRun lowestRun hasRun
+    apart inside outside isFreeRun lowestRun hasRun runAt smallestBelow bestFit
     everyTicketOf everyTicket someTicketOf someTicket everyEntry numbersOk t1 spanOk t2 parentOk childOk t3 t4
     entryNamesOk grantOk parentEntryOk entryOk rootsOk t5 recallParentOk isChildOf farTargetOk targetOk recallOk t6 inOrder
     isFree hasPlace withTicket withProgram give isSpare putEntry

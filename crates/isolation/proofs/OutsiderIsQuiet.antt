@@ -18,7 +18,6 @@ use Rattle.tables.specs.Names.{nameOf, eqName, sameProgram, free, noEntry}
 use Rattle.tables.specs.Lookup.{programAt, ticketsOf, hasNumber, ticketIn, lookup, entryOf}
 use Rattle.tables.specs.Chains.{atOrUnder, chainHead, atOrBelow}
 use Rattle.tables.specs.Change.{dropTicket, dropInProgram, dropTickets, dropEntries}
-use Rattle.tables.specs.Sheets.{lowestRun}
 use Rattle.tables.proofs.NameLaws.{eqName-false, program-ne}
 use Rattle.tables.proofs.Keys.{ticketKeys, ticketLaws}
 use Rattle.tables.proofs.ByPlace.{ticketAt}
@@ -35,7 +34,7 @@ use Rattle.machine.specs.Sequence.{Group, fromGroup, crosses}
 use Rattle.machine.specs.Isolation.{owns, Unlinked}
 use Rattle.preservation.specs.Rules.{Inside, Apart, EntryOk}
 use Rattle.preservation.specs.InOrder.{InOrder, DockOk}
-use Rattle.preservation.proofs.SheetTests.{apart-sym, run-fits, beside}
+use Rattle.preservation.proofs.SheetTests.{apart-sym, beside}
 use Rattle.preservation.proofs.AfterChange.{removed, entry-removed, no-entry-there}
 use Rattle.preservation.proofs.ChainSteps.{head-is-dock, within-entry, entry-fits}
 use Rattle.tables.proofs.Keys.{drop-no-entry}
@@ -53,6 +52,8 @@ use Rattle.isolation.proofs.AlikeFacts.{mine-low}
 use Rattle.isolation.proofs.UnlinkedKept.{unlinked-removed, unlinked-take, unlinked-near, unlinked-far}
 use Rattle.tables.specs.Kinds.{isLive, isTaken, isRecall}
 use Rattle.tables.proofs.Programs.{dropped-program}
+use Rattle.best_fit.specs.BestFit.{bestFit}
+use Rattle.best_fit.proofs.Laws.{best-fits}
 
 -- ---- removal that spares the group
 cond-both : {A : Type 0} (b : Bool) (x : A) → cond b x x ≡ x
@@ -132,15 +133,15 @@ module _ (g : Group) (s : State) (parted : Parted g s) where
     quiet-take : MayTake t r → DockOk (afterTake s r .state) → Quiet g s (afterTake s r .state)
     unfolding afterTake accepted clearSheets
     quiet-take may dock =
-        let first = lowestRun (t .entries) (r .count) in
-        let e : TakeEffect t (takeTables t r) r _ (lowestRun (t .entries) (r .count)) = take-effect t ok r may in
+        let first = bestFit (t .entries) (r .count) in
+        let e : TakeEffect t (takeTables t r) r _ (bestFit (t .entries) (r .count)) = take-effect t ok r may in
         record {
           after = record { dock = dock; unlinked = unlinked-take g t (takeTables t r) r _ _ e apart };
           programs = λ p q h. e .programs p q (not-asker p q h);
           entries = λ n h. e .entries n (λ w. no-true (sym out ∙ ap (owns g) (sym w) ∙ h));
           bytes = λ n a m.
               sheet-kept first (r .count) (replicate (64 * r .count) 0) (s .store) (parted .dock .store) (length-replicate _ 0)
-              (run-fits (t .entries) (r .count) (may .run)) (entryOf t n .first + a) (mine-low g s parted m)
+              (best-fits (t .entries) (r .count) (may .some) (may .run)) (entryOf t n .first + a) (mine-low g s parted m)
               (beside first (r .count) (entryOf t n .first) (entryOf t n .count) a (e .apart n (m .live)) (m .low));
         }
 

@@ -16,7 +16,6 @@ use Rattle.tables.specs.declared.Kind.the-variants.{Taken}
 use Rattle.tables.specs.Names.{noName, eqName, sameProgram, headTicket, entryFor}
 use Rattle.tables.specs.Lookup.{ticketsOf, lastOf, lookup, entryOf}
 use Rattle.tables.specs.Change.{isFree, newName}
-use Rattle.tables.specs.Sheets.{lowestRun}
 use Rattle.tables.proofs.NameLaws.{name-eq, eqName-true, eqName-ne, program-same}
 use Rattle.machine.specs.declared.Request.{Request}
 use Rattle.machine.specs.State.{State, accepted, sheetAt, putSheets, clearSheets}
@@ -24,7 +23,7 @@ use Rattle.machine.specs.Take.{takeTables, afterTake}
 use Rattle.machine.specs.Sequence.{Group}
 use Rattle.machine.specs.Isolation.{owns}
 use Rattle.preservation.specs.InOrder.{DockOk}
-use Rattle.preservation.proofs.SheetTests.{run-fits, apart-ne, beside}
+use Rattle.preservation.proofs.SheetTests.{apart-ne, beside}
 use Rattle.preservation.proofs.ChainSteps.{dock-live}
 use Rattle.preservation.proofs.NewNames.{not-past}
 use Rattle.preservation.proofs.Taking.{MayTake, TakeEffect, take-effect}
@@ -33,6 +32,8 @@ use Rattle.isolation.specs.Alike.{blur, blurEntry, Mine, sheetIn, Alike}
 use Rattle.isolation.proofs.AlikeFacts.{place-blur, mine-there, mine-low}
 use Rattle.isolation.proofs.UnlinkedKept.{unlinked-take}
 use Rattle.tables.specs.Kinds.{isGrant}
+use Rattle.best_fit.specs.BestFit.{bestFit}
+use Rattle.best_fit.proofs.Laws.{best-fits}
 
 -- ---- a ticket put in the lowest free place on both sides
 pub put-both : (ts us : List Ticket) (k k₂ : Ticket) → map blur ts ≡ map blur us → blur k ≡ blur k₂
@@ -54,10 +55,10 @@ module _ (g : Group) (s u : State) (al : Alike g s u) (r : Request) (mine : g (r
   x≡y = name-eq refl refl (ap suc (al .lasts (r .pad) (r .program) mine))
 
   abbrev f₁ : ℕ
-  f₁ = lowestRun (s .tables .entries) (r .count)
+  f₁ = bestFit (s .tables .entries) (r .count)
 
   abbrev f₂ : ℕ
-  f₂ = lowestRun (u .tables .entries) (r .count)
+  f₂ = bestFit (u .tables .entries) (r .count)
 
   abbrev t₁ : Tables
   t₁ = takeTables (s .tables) r
@@ -186,17 +187,17 @@ module _ (g : Group) (s u : State) (al : Alike g s u) (r : Request) (mine : g (r
       let p = eqName-true n x v in
       let c : a < r .count = rw (new₁ n p) at (m .low) in
       rw (new₁ n p, new₂ n p)
-      (sheet-put f₁ (r .count) zeros (s .store) (al .here .dock .store) (length-replicate _ 0) (run-fits (s .tables .entries) (r .count) (may .run)) a c
-      ∙ sym (sheet-put f₂ (r .count) zeros (u .store) (al .there .dock .store) (length-replicate _ 0) (run-fits (u .tables .entries) (r .count) (may₂ .run)) a c))
+      (sheet-put f₁ (r .count) zeros (s .store) (al .here .dock .store) (length-replicate _ 0) (best-fits (s .tables .entries) (r .count) (may .some) (may .run)) a c
+      ∙ sym (sheet-put f₂ (r .count) zeros (u .store) (al .there .dock .store) (length-replicate _ 0) (best-fits (u .tables .entries) (r .count) (may₂ .some) (may₂ .run)) a c))
   bytes-of n a m (fail v) =
       let ne = eqName-ne n x v in
       let m₁ : Mine g (s .tables) n a = mine-before ne m in
       let m₂ : Mine g (u .tables) n a = mine-there g s u al m₁ in
       rw (effect .entries n ne, entries₂ n ne)
-      (sheet-kept f₁ (r .count) zeros (s .store) (al .here .dock .store) (length-replicate _ 0) (run-fits (s .tables .entries) (r .count) (may .run)) _
+      (sheet-kept f₁ (r .count) zeros (s .store) (al .here .dock .store) (length-replicate _ 0) (best-fits (s .tables .entries) (r .count) (may .some) (may .run)) _
       (mine-low g s (al .here) m₁) (beside f₁ (r .count) _ _ a (effect .apart n (m₁ .live)) (m₁ .low))
       ∙ al .bytes n a m₁
-      ∙ sym (sheet-kept f₂ (r .count) zeros (u .store) (al .there .dock .store) (length-replicate _ 0) (run-fits (u .tables .entries) (r .count) (may₂ .run)) _
+      ∙ sym (sheet-kept f₂ (r .count) zeros (u .store) (al .there .dock .store) (length-replicate _ 0) (best-fits (u .tables .entries) (r .count) (may₂ .some) (may₂ .run)) _
       (mine-low g u (al .there) m₂) (beside f₂ (r .count) _ _ a (effect₂ .apart n (m₂ .live)) (m₂ .low))))
 
   pub alike-take : DockOk (afterTake s r .state) → DockOk (afterTake u r .state) → Alike g (afterTake s r .state) (afterTake u r .state)

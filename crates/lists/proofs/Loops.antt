@@ -1,6 +1,5 @@
--- Laws for loops over an index: where a search, a test of all elements or a search for the least number stands after i turns, one more
--- turn, and the end.
-use Prim.Native.Nat.{ℕ, suc, _+_, _-_, _≤_, _<_}
+-- Laws for loops over an index: where a search or a test of all elements stands after i turns, one more turn, and the end.
+use Prim.Native.Nat.{ℕ, suc, _+_, _≤_, _<_}
 use native.Mathlib.Numerals.{add-one}
 use native.Mathlib.Omega.{arith}
 use mathlib.Core.Path.{_≡_, sym, ap, subst, _∙_}
@@ -10,7 +9,7 @@ use lib.Dec.{eqb}
 use lib.ListN.{length, getD, drop, drop-of-length-le}
 use lib.Seq.{drop-cons}
 use borrow.Author.Tests.{eqb-true, eqb-false}
-use Rattle.lists.specs.Lists.{firstIndex, all, allAt, least}
+use Rattle.lists.specs.Lists.{firstIndex, all, allAt}
 use Rattle.lists.proofs.Tests.{Case, pass, fail, case, cannot-pass, no-true}
 use Rattle.lists.proofs.Everywhere.{all-elim, allAt-elim}
 
@@ -65,23 +64,3 @@ module _ {A : Type 0} (d : A) where
 
   pub allAt-broken : (f : ℕ → A → Bool) (l : List A) (i : ℕ) → i < length l → f i (getD l i d) ≡ false → false ≡ allAt f 0 l
   allAt-broken f l i h e = sym (cannot-pass (allAt f 0 l) (λ p. no-true (sym e ∙ allAt-elim d f l p i h)))
-
--- ---- the least number that passes, from i on and below n
-module _ (f : ℕ → Bool) (n i : ℕ) where
-  pub least-from : i < n → least f (n - i) i ≡ cond (f i) i (least f (n - (i + 1)) (i + 1))
-  unfolding least
-  least-from h =
-      let e : n - i ≡ suc (n - (i + 1)) = omega arith in
-      rw (e, add-one i)
-
-  pub least-hit : i < n → f i ≡ true → (r : ℕ) → r ≡ least f (n - i) i → i ≡ r
-  least-hit h t r p = sym (p ∙ least-from h ∙ ap (λ (b : Bool). cond b i (least f (n - (i + 1)) (i + 1))) t)
-
-  pub least-miss : i < n → f i ≡ false → (r : ℕ) → r ≡ least f (n - i) i → r ≡ least f (n - (i + 1)) (i + 1)
-  least-miss h t r p = p ∙ least-from h ∙ ap (λ (b : Bool). cond b i (least f (n - (i + 1)) (i + 1))) t
-
-  pub least-end : n ≤ i → (r : ℕ) → r ≡ least f (n - i) i → i ≡ r
-  unfolding least
-  least-end h r p =
-      let e : n - i ≡ 0 = omega arith in
-      sym (p ∙ ap (λ (m : ℕ). least f m i) e)

@@ -1,14 +1,17 @@
 -- The first element that passes a test: what is found, after an element is put in the first place that passes another test, and
 -- after a change of every element. Then the least number that passes.
 use Prim.Native.Nat.{ℕ, zero, suc, _+_, _≤_, _<_}
-use native.Mathlib.Nat.{le-of-suc-le-suc, not-suc-le-zero}
+use native.Mathlib.Nat.{le-of-suc-le-suc, not-suc-le-zero, eq-or-lt-of-le}
 use native.Mathlib.Omega.{arith}
 use mathlib.Core.Path.{_≡_, refl, sym, ap, _∙_}
+use mathlib.Core.Logic.{_⊎_, inl, inr}
 use mathlib.Core.Bool.{Bool, true, false, cond}
 use mathlib.Core.List.{List, [], _∷_, map}
+use lib.Dec.{ltb}
 use lib.ListN.{length, getD, set}
+use borrow.Author.Tests.{ltb-true, ltb-false}
 use Rattle.lists.specs.Lists.{firstIndex, some, least}
-use Rattle.lists.proofs.Tests.{Case, pass, fail, case, no-true}
+use Rattle.lists.proofs.Tests.{Case, pass, fail, case, no-true, contradiction}
 
 module _ {A : Type 0} where
   -- the first element that passes, or d
@@ -140,6 +143,46 @@ least-passes f (suc k) s h = go (case (f s)) (least-passes f k (suc s))
     go (fail e) ih =
         let b : least f k (suc s) < suc k + s = rw e at h in
         rw e (ih (omega arith))
+
+-- none below it does
+pub least-below : (f : ℕ → Bool) (k s m : ℕ) → s ≤ m → m < least f k s → f m ≡ false
+unfolding least
+least-below f zero s m a b = absurd (omega arith)
+least-below f (suc k) s m a b = go (case (f s)) (eq-or-lt-of-le a) (least-below f k (suc s) m)
+  where
+    go : Case (f s) → (s ≡ m) ⊎ (s < m) → (suc s ≤ m → m < least f k (suc s) → f m ≡ false) → f m ≡ false
+    go (pass e) _ ih = let b′ : m < s = rw e at b in absurd (omega arith)
+    go (fail e) (inl q) ih = ap f (sym q) ∙ e
+    go (fail e) (inr q) ih = ih q (rw e at b)
+
+pub least-most : (f : ℕ → Bool) (k s : ℕ) → least f k s ≤ k + s
+unfolding least
+least-most f zero s = omega arith
+least-most f (suc k) s = go (case (f s)) (least-most f k (suc s))
+  where
+    go : Case (f s) → least f k (suc s) ≤ k + suc s → cond (f s) s (least f k (suc s)) ≤ suc k + s
+    go (pass e) ih = rw e (omega arith)
+    go (fail e) ih = rw e (omega arith)
+
+least-low : (f : ℕ → Bool) (k s : ℕ) → s ≤ least f k s
+unfolding least
+least-low f zero s = omega arith
+least-low f (suc k) s = go (case (f s)) (least-low f k (suc s))
+  where
+    go : Case (f s) → suc s ≤ least f k (suc s) → s ≤ cond (f s) s (least f k (suc s))
+    go (pass e) ih = rw e (omega arith)
+    go (fail e) ih = rw e (omega arith)
+
+-- a number that passes, where none below it does
+pub least-is : (f : ℕ → Bool) (k s m : ℕ) → m ≤ k + s → ((j : ℕ) → s ≤ j → j < m → f j ≡ false) → s ≤ m → f m ≡ true → least f k s ≡ m
+least-is f k s m a none low h = go (case (ltb (least f k s) m)) (case (ltb m (least f k s)))
+  where
+    go : Case (ltb (least f k s) m) → Case (ltb m (least f k s)) → least f k s ≡ m
+    go (pass e) _ =
+        let b : least f k s < m = ltb-true (least f k s) m e in
+        contradiction (least-passes f k s (omega arith)) (none (least f k s) (least-low f k s) b)
+    go (fail e) (pass e′) = contradiction h (least-below f k s m low (ltb-true m (least f k s) e′))
+    go (fail e) (fail e′) = omega (arith, ltb-false (least f k s) m e, ltb-false m (least f k s) e′)
 
 pub first-map : {A B : Type 0} (f : B → Bool) (g : A → B) (l : List A) → firstIndex f (map g l) ≡ firstIndex (λ x. f (g x)) l
 unfolding firstIndex

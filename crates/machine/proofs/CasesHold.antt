@@ -4,7 +4,7 @@ use mathlib.Core.Path.{_≡_, refl}
 use mathlib.Core.Bool.{true}
 use lib.ListN.{replicate}
 use Rattle.lists.specs.Tests.{implies, between}
-use Rattle.lists.specs.Lists.{firstIndex, all, some, noTwo, allAt, someAt, mapAt, least}
+use Rattle.lists.specs.Lists.{firstIndex, all, some, keep, noTwo, allAt, someAt, mapAt, least}
 use Rattle.rights.specs.Rules.{within}
 use Rattle.tables.specs.Names.{nameOf, eqName, isProgram, sameProgram, emptyTables}
 use Rattle.tables.specs.Lookup.{hasNumber, ticketIn, lookup, isNamed, entryIn}
@@ -12,6 +12,7 @@ use Rattle.tables.specs.Chains.{reaches, endOf}
 use Rattle.tables.specs.Sheets.{apart, inside, outside, isFreeRun, lowestRun, hasRun}
 use Rattle.tables.specs.Order.{everyTicketOf, everyTicket, someTicketOf, someTicket, everyEntry, numbersOk, t1, spanOk, t2, parentOk, childOk, t3, t4, entryNamesOk, grantOk, parentEntryOk, entryOk, rootsOk, t5, recallParentOk, isChildOf, farTargetOk, targetOk, recallOk, t6, inOrder}
 use Rattle.tables.specs.Change.{isFree, hasPlace, withTicket, withProgram, give, isSpare, putEntry, dropTicket, dropInProgram, dropInPad, dropTickets, dropEntry, dropEntries}
+use Rattle.best_fit.specs.BestFit.{runAt, smallestBelow, bestFit}
 use Rattle.machine.specs.State.{accepted, refused, withTables, sheetAt, putSheets, clearSheets}
 use Rattle.machine.specs.Refusal.{_when_else_, isSpent}
 use Rattle.machine.specs.Operation.{operationOf, usedBy, fieldOk, fieldsOk}
@@ -27,7 +28,7 @@ use Rattle.machine.proofs.CaseLines.{request, served, sameAnswer, shown
 use Rattle.machine.proofs.WorkedCases.{workedCases}
 use Rattle.machine.proofs.Traps.{traps}
 use Rattle.machine.proofs.RefusalOrder.{refusalsFromEmpty, exhausted}
-use Rattle.machine.proofs.EdgeCases.{outOfOrder, fromStart, starts, answered, lent, lowest, storeGivenBack}
+use Rattle.machine.proofs.EdgeCases.{outOfOrder, fromStart, starts, answered, lent, smallest, storeGivenBack}
 
 pub record CasesHold : Type 0 where
   -- M1 to M11
@@ -37,16 +38,16 @@ pub record CasesHold : Type 0 where
   pub from-lent : all fromStart starts ≡ true
   pub short-sheet : refusal (record { tables = emptyTables; store = emptyStore; sheet = replicate 63 0 }) (request 0 0 0 0 0 0 0 0 0) ≡ 13
   pub dock-lent : answered lent ≡ true
-  pub dock-lowest : answered lowest ≡ true
+  pub dock-smallest : answered smallest ≡ true
   pub dock-order : dockCheck outOfOrder (nameOf 0 0 1) 256 0 ≡ 14
   pub given-back : storeGivenBack ≡ emptyStore
   pub emptied-whole : emptied (replicate 16384 9) ≡ record { result = 0; tables = emptyTables; store = emptyStore }
   pub emptied-other : emptied (replicate 16383 9) ≡ record { result = 13; tables = emptyTables; store = replicate 16383 9 }
 
 pub cases-hold : CasesHold
-unfolding implies between firstIndex all some noTwo allAt someAt mapAt least within
+unfolding implies between firstIndex all some keep noTwo allAt someAt mapAt least within
     eqName isProgram sameProgram emptyTables hasNumber ticketIn lookup isNamed entryIn reaches endOf
-    apart inside outside isFreeRun lowestRun hasRun
+    apart inside outside isFreeRun lowestRun hasRun runAt smallestBelow bestFit
     everyTicketOf everyTicket someTicketOf someTicket everyEntry numbersOk t1 spanOk t2 parentOk childOk t3 t4
     entryNamesOk grantOk parentEntryOk entryOk rootsOk t5 recallParentOk isChildOf farTargetOk targetOk recallOk t6 inOrder
     isFree hasPlace withTicket withProgram give isSpare putEntry dropTicket dropInProgram dropInPad dropTickets dropEntry dropEntries
@@ -62,7 +63,7 @@ cases-hold = record {
   from-lent = refl;
   short-sheet = refl;
   dock-lent = refl;
-  dock-lowest = refl;
+  dock-smallest = refl;
   dock-order = refl;
   given-back = refl;
   emptied-whole = refl;

@@ -111,26 +111,23 @@ lent = record {
       [];
 }
 
--- "the lowest such run": a hole of one sheet is too short for two, and is then used
-abbrev pub lowest : Asked
-lowest = record {
+-- 02, 5/13, "the smallest free run that is long enough": the store's last sheet, and not the two that were given back
+abbrev pub smallest : Asked
+smallest = record {
   lines =
-      line 0 0 1 0 0 0 0 1 7 0 (gives 0 1 0 0) ∷
-      line 0 0 1 0 0 0 0 1 7 0 (gives 0 2 0 0) ∷
+      line 0 0 1 0 0 0 0 2 7 0 (gives 0 1 0 0) ∷
+      line 0 0 1 0 0 0 0 253 7 0 (gives 0 2 0 0) ∷
       line 0 0 4 1 0 0 0 0 0 0 (gives 0 0 0 0) ∷
-      line 0 0 1 0 0 0 0 2 7 0 (gives 0 3 0 0) ∷
-      line 0 0 1 0 0 0 0 1 7 0 (gives 0 4 0 0) ∷
-      line 0 0 1 0 0 0 0 251 7 0 (gives 0 5 0 0) ∷
-      line 0 0 1 0 0 0 0 2 7 0 (gives 11 0 0 0) ∷
-      line 0 0 1 0 0 0 0 1 7 0 (gives 0 6 0 0) ∷
+      line 0 0 1 0 0 0 0 1 7 0 (gives 0 3 0 0) ∷
+      line 0 0 1 0 0 0 0 2 7 0 (gives 0 4 0 0) ∷
+      line 0 0 1 0 0 0 0 1 7 0 (gives 11 0 0 0) ∷
       [];
   asks =
-      ask (nameOf 0 0 3) 1 1 6 ∷
-      ask (nameOf 0 0 3) 2 1 0 ∷
+      ask (nameOf 0 0 2) 2 1 0 ∷
+      ask (nameOf 0 0 2) 254 1 0 ∷
+      ask (nameOf 0 0 3) 255 1 0 ∷
       ask (nameOf 0 0 4) 0 1 0 ∷
-      ask (nameOf 0 0 4) 1 1 6 ∷
-      ask (nameOf 0 0 6) 254 1 6 ∷
-      ask (nameOf 0 0 6) 255 1 0 ∷
+      ask (nameOf 0 0 4) 1 1 0 ∷
       [];
 }
 

@@ -5,8 +5,9 @@ use Rattle.rights.specs.Rules.{rightsOf}
 use Rattle.tables.specs.declared.Tables.{Tables}
 use Rattle.tables.specs.declared.Kind.the-variants.{Taken}
 use Rattle.tables.specs.Names.{noName, headTicket, entryFor}
-use Rattle.tables.specs.Sheets.{lowestRun, hasRun}
+use Rattle.tables.specs.Sheets.{hasRun}
 use Rattle.tables.specs.Change.{hasPlace, newName, give, putEntry}
+use Rattle.best_fit.specs.BestFit.{bestFit}
 use Rattle.machine.specs.declared.Request.{Request}
 use Rattle.machine.specs.State.{State, Outcome, accepted, clearSheets}
 use Rattle.machine.specs.Refusal.{_when_else_, isSpent}
@@ -23,17 +24,17 @@ takeRefusal t r =
 unfoldable pub takeTables : Tables → Request → Tables
 takeTables t r =
     let n = newName t (r .pad) (r .program) in
-    let first = lowestRun (t .entries) (r .count) in
+    let first = bestFit (t .entries) (r .count) in
     let rights = rightsOf (r .rights) in
     putEntry (give t (r .pad) (r .program) (headTicket Taken n first (r .count) rights)) (entryFor n noName first (r .count) rights)
 
--- "Otherwise the lowest such run is taken, its bytes set to 0"
+-- "Otherwise the .. run is taken, its bytes set to 0"; which one: 02, 5/13
 unfoldable pub afterTake : State → Request → Outcome
 afterTake s r =
     accepted
     (record {
       tables = takeTables (s .tables) r;
-      store = clearSheets (lowestRun (s .tables .entries) (r .count)) (r .count) (s .store);
+      store = clearSheets (bestFit (s .tables .entries) (r .count)) (r .count) (s .store);
       sheet = s .sheet;
     })
     (newName (s .tables) (r .pad) (r .program) .number)

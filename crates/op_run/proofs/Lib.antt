@@ -1,3 +1,3 @@
 pub mod Runs
-pub mod Laws
+pub mod BestFit
 pub mod FreeSheets

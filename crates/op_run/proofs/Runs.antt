@@ -1,24 +1,23 @@
--- The lowest free run. A run that begins at a is free where each entry ends at or below a or begins past the run. So past the entries that
--- begin below s, no free run begins below the furthest of their ends; and the run from there is free once it has been seen whole.
+-- The ends of the entries noted by the sheets where they begin. A run that begins at a is free where each entry ends at or below a or begins
+-- past the run.
 use Prim.Native.Nat.{ℕ, zero, suc, _+_, _-_, _≤_, _<_}
 use native.Mathlib.Omega.{arith}
 use native.Mathlib.Numerals.{add-one}
-use mathlib.Core.Path.{_≡_, refl, sym, ap, _∙_, subst}
+use mathlib.Core.Path.{_≡_, sym, ap, _∙_, subst}
 use mathlib.Core.Logic.{_⊎_, inl, inr}
-use mathlib.Core.Bool.{Bool, true, false, not, _&&_, _||_, cond}
+use mathlib.Core.Bool.{true, false, not, _&&_, _||_, cond}
 use mathlib.Core.List.{List, [], _∷_}
 use lib.Dec.{leb, ltb, eqb}
 use lib.ListN.{length, getD, set, drop, replicate, length-set, length-replicate, drop-of-length-le, getD-replicate, List·getD-eq-default}
 use lib.Seq.{drop-cons, getD-set-same, getD-set-other}
 use borrow.Author.Count.{below-more}
 use borrow.Author.Tests.{lt-ltb, le-ltb, le-leb, lt-leb, ltb-true, ltb-false, eqb-true, eqb-false}
-use Rattle.lists.specs.Lists.{all, least}
+use Rattle.lists.specs.Lists.{all}
 use Rattle.lists.proofs.Tests.{Case, pass, fail, case, contradiction, cannot-pass, and-r, and-intro, or-left, or-right, not-test}
 use Rattle.lists.proofs.Everywhere.{all-intro, all-elim}
-use Rattle.lists.proofs.Loops.{least-hit, least-miss, least-end}
 use Rattle.tables.specs.declared.Entry.{Entry}
 use Rattle.tables.specs.Names.{noEntry}
-use Rattle.tables.specs.Sheets.{apart, outside, isFreeRun, lowestRun}
+use Rattle.tables.specs.Sheets.{apart, outside, isFreeRun}
 use Rattle.tables.proofs.ByPlace.{at}
 use Rattle.op_run.specs.Ends.{further, noteEnd, noteEnds}
 
@@ -243,7 +242,20 @@ module _ (es : List Entry) (count a : ℕ) where
   unfolding isFreeRun
   run-high h = rw (lt-leb (a + count) 256 h)
 
--- ---- all ends noted, and the run
+-- ---- all ends noted
+-- an end stands at a sheet that it is not below
+pub end-behind : (es : List Entry) {ends : List ℕ} → ends ≡ noteEnds es noEnds → (k : ℕ) → k < 256 → (getD ends k 0 ≡ 0 → ⊥) → k ≤ getD ends k 0
+end-behind es {ends} noted-all k b ne =
+    go (all-from es noEnds no-ends-long k (getD ends k 0 - 1) (subst (λ (l : List ℕ). getD ends k 0 - 1 < getD l k 0) noted-all (omega (arith, ne))))
+  where
+    go : (getD ends k 0 - 1 < getD noEnds k 0) ⊎ Ending es k (getD ends k 0 - 1) → k ≤ getD ends k 0
+    go (inl p) = absurd (omega (arith, no-ends k, p))
+    go (inr w) =
+        let u = all-upper es noEnds no-ends-long (w .place) (w .low) (w .live) (omega (arith, w .first)) in
+        let f = ap (λ (j : ℕ). getD (noteEnds es noEnds) j 0) (w .first) in
+        omega (arith, u, f, w .first, ap (λ (l : List ℕ). getD l k 0) noted-all)
+
+-- the run
 module _ (es : List Entry) {ends : List ℕ} (noted-all : ends ≡ noteEnds es noEnds) (count a : ℕ) where
   -- an end noted within the run or before it, and past its beginning, is that of an entry that meets it
   pub run-behind : (s : ℕ) → s < a + count → a < getD ends s 0 → isFreeRun es count a ≡ false
@@ -265,73 +277,3 @@ module _ (es : List Entry) {ends : List ℕ} (noted-all : ends ≡ noteEnds es n
               let z : at es j .first < a + count = ltb-true (at es j .first) (a + count) p in
               let u = all-upper es noEnds no-ends-long j d v (omega arith) in
               inr (omega (arith, u, ap (λ (l : List ℕ). getD l (at es j .first) 0) noted-all, before (at es j .first) z))
-
--- ---- the least number that passes, where all below a fail
-least-past : (f : ℕ → Bool) (n a : ℕ) → a ≤ n → ((i : ℕ) → i < a → f i ≡ false) → least f n 0 ≡ least f (n - a) a
-least-past f n zero b none = ap (λ (k : ℕ). least f k 0) (whole n)
-  where
-    whole : (n : ℕ) → n ≡ n - 0
-    whole n = omega arith
-least-past f n (suc a) b none =
-    least-past f n a (omega arith) (λ i c. none i (omega arith)) ∙ least-miss f n a (omega arith) (none a (omega arith)) _ refl
-    ∙ ap (λ (k : ℕ). least f (n - k) k) (add-one a)
-
-module _ (es : List Entry) (count a : ℕ) (none : (i : ℕ) → i < a → isFreeRun es count i ≡ false) where
-  lowest-here : a < 256 → isFreeRun es count a ≡ true → a ≡ lowestRun es count
-  unfolding lowestRun
-  lowest-here b h = least-hit (isFreeRun es count) 256 a b h _ (least-past (isFreeRun es count) 256 a (omega arith) none)
-
-  lowest-nowhere : a ≡ 256 → a ≡ lowestRun es count
-  unfolding lowestRun
-  lowest-nowhere b = least-end (isFreeRun es count) 256 a (omega arith) _ (least-past (isFreeRun es count) 256 a (omega arith) none)
-
--- ---- where the search stands: the sheets below s have been seen, and no free run begins below start
-pub record Sought (count : ℕ) (ends : List ℕ) (start s : ℕ) : Type 0 where
-  pub within : s ≤ 256
-  pub short : s < start + count
-  pub past : (k : ℕ) → k < s → getD ends k 0 ≤ start
-  pub none : (es : List Entry) → ends ≡ noteEnds es noEnds → (a : ℕ) → a < start → isFreeRun es count a ≡ false
-
-module _ {count : ℕ} {ends : List ℕ} where
-  pub sought-none : 1 ≤ count → Sought count ends 0 0
-  sought-none c = record { within = omega arith; short = omega arith; past = λ k b. absurd (omega arith); none = λ es q a b. absurd (omega arith) }
-
-  -- next: the start with the ends at the sheet s seen too
-  module _ {start s : ℕ} (so-far : Sought count ends start s) (b : s < 256) {next : ℕ} (is : next ≡ further start (getD ends s 0)) where
-    next-left : start ≤ next
-    next-left = rw is (further-left start (getD ends s 0))
-
-    next-past : (k : ℕ) → k < s + 1 → getD ends k 0 ≤ next
-    next-past = reach-more ends (so-far .past) is
-
-    -- a run that begins from start on, below an end noted at s, meets that entry
-    next-none : (es : List Entry) → ends ≡ noteEnds es noEnds → (a : ℕ) → a < next → isFreeRun es count a ≡ false
-    next-none es q a c = go (case (ltb a start)) (further-from start (getD ends s 0) a (rw is at c))
-      where
-        go : Case (ltb a start) → (a < start) ⊎ (a < getD ends s 0) → isFreeRun es count a ≡ false
-        go _ (inl h) = so-far .none es q a h
-        go (pass p) (inr _) = so-far .none es q a (ltb-true a start p)
-        go (fail p) (inr h) = let z : start ≤ a = ltb-false a start p in run-behind es q count a s (omega (arith, so-far .short)) h
-
-    pub sought-more : (s + 1 ≡ next + count → ⊥) → Sought count ends next (s + 1)
-    sought-more ne = record {
-      within = omega arith;
-      short = omega (arith, so-far .short, next-left, ne);
-      past = next-past;
-      none = next-none;
-    }
-
-    pub sought-found : 1 ≤ count → (es : List Entry) → ends ≡ noteEnds es noEnds → s + 1 ≡ next + count → next ≡ lowestRun es count
-    sought-found c es q e =
-        lowest-here es count next (next-none es q) (omega arith)
-        (run-clear es q count next (omega arith) (λ k d. next-past k (omega arith)))
-
-  pub sought-end : {start s : ℕ} → Sought count ends start s → 256 ≤ s → (es : List Entry) → ends ≡ noteEnds es noEnds → s ≡ lowestRun es count
-  sought-end {start} {s} so-far b es q = lowest-nowhere es count s none (omega (arith, so-far .within))
-    where
-      none : (a : ℕ) → a < s → isFreeRun es count a ≡ false
-      none a c = go (case (ltb a start))
-        where
-          go : Case (ltb a start) → isFreeRun es count a ≡ false
-          go (pass p) = so-far .none es q a (ltb-true a start p)
-          go (fail p) = let z : start ≤ a = ltb-false a start p in run-high es count a (omega (arith, so-far .short))

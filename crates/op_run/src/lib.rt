@@ -1,11 +1,14 @@
-// The lowest run of sheets that no entry of the image has, and how many sheets none has.
+// The run of sheets that a take uses, and how many sheets no entry of the image has.
 ghost use mathlib.Core.Path.{_≡_};
 ghost use Prim.Native.Nat.{_≤_};
 ghost use lib.ListN.{length};
-ghost use Rattle.tables.specs.Sheets.{lowestRun, sheetsFree};
+ghost use Rattle.tables.specs.Sheets.{sheetsFree};
+ghost use Rattle.best_fit.specs.BestFit.{bestFit};
 ghost use Rattle.image.specs.Layout.{imageSize};
 ghost use Rattle.image_read.specs.Places.{entriesIn};
 ghost use Rattle.op_run.specs.Ends.{further, noteEnd, noteEnds};
+ghost use Rattle.op_run.specs.Better.{betterOf};
+use best_fit::Run;
 use tables::Entry;
 
 fn furthest(a: u32, b: u32) -> u32
@@ -45,25 +48,51 @@ fn note_ends(ends: &mut [u32; 256], image: &[u8])
     }
 }
 
-// The first sheet of the lowest run of `count` sheets outside all entries, or 256. One pass over the entries, one over the sheets: `start`
-// is where the furthest of the entries that begin below s ends, and no free run begins below it.
-pub fn lowest_run(image: &[u8], count: usize) -> usize
+// The run that is found, or the one from start up to end where that suits better: it is long enough, and smaller.
+fn better(found: Run, start: u32, end: u32, count: u32) -> Run
+    ensures { λ r. ⌜ r ≡ betterOf found start end count ⌝ }
+{
+    if end <= start {
+        return found;
+    }
+    let sheets = end - start;
+    if sheets < count {
+        return found;
+    }
+    if found.count <= sheets {
+        return found;
+    }
+    Run {
+        first: start,
+        count: sheets,
+    }
+}
+
+// The sheet from which on a take of `count` sheets lies, or 256. One pass over the entries, one over the sheets: `start` is where the furthest
+// of the entries that begin below s ends, and where an entry begins, the free run from there on ends.
+pub fn best_fit(image: &[u8], count: usize) -> usize
     requires { ⌜ (length (now image) ≡ imageSize) × (1 ≤ count) × (count ≤ 256) ⌝ }
-    ensures { λ r. ⌜ r ≡ lowestRun (entriesIn (now (image .entry))) count ⌝ }
+    ensures { λ r. ⌜ r ≡ bestFit (entriesIn (now (image .entry))) count ⌝ }
 {
     let mut ends = [0u32; 256];
     note_ends(&mut ends, image);
+    let mut found = Run {
+        first: 256,
+        count: 257,
+    };
     let mut start: u32 = 0;
     let mut s: usize = 0;
     while s < 256 {
         let end = ends[s];
+        let sheet = s as u32;
         s = s + 1;
-        start = furthest(start, end);
-        if s == start as usize + count {
-            return start as usize;
+        if end != 0 {
+            found = better(found, start, sheet, count as u32);
+            start = furthest(start, end);
         }
     }
-    s
+    let best = better(found, start, 256, count as u32);
+    best.first as usize
 }
 
 // How many sheets lie outside all entries, counted sheet by sheet: one does where the furthest of the entries that begin there or below does

@@ -4,14 +4,16 @@ use native.Mathlib.Omega.{arith}
 use mathlib.Core.Path.{_≡_, refl, sym, ap, subst, _∙_}
 use mathlib.Core.Bool.{true, false, not}
 use mathlib.Core.List.{List}
-use borrow.Author.Tests.{not-false, ltb-true, le-leb, lt-leb}
+use borrow.Author.Tests.{not-false, le-leb, lt-leb}
 use Rattle.rights.specs.Rules.{rightsOf}
 use Rattle.tables.specs.declared.{Name.Name, Ticket.Ticket, Entry.Entry, Tables.Tables}
 use Rattle.tables.specs.declared.Kind.the-variants.{Taken}
 use Rattle.tables.specs.Names.{nameOf, noName, headTicket, entryFor}
 use Rattle.tables.specs.Lookup.{lastOf}
-use Rattle.tables.specs.Sheets.{lowestRun, hasRun}
+use Rattle.tables.specs.Sheets.{hasRun}
 use Rattle.tables.specs.Change.{hasPlace, newName, give, putEntry}
+use Rattle.best_fit.specs.BestFit.{bestFit}
+use Rattle.best_fit.proofs.Laws.{run-there, run-nowhere, best-fits}
 use Rattle.machine.specs.declared.Request.{Request}
 use Rattle.machine.specs.State.{answerOf, accepted, clearSheets, stateOf}
 use Rattle.machine.specs.Refusal.{_when_else_, isSpent}
@@ -20,8 +22,8 @@ use Rattle.machine.specs.Take.{takeRefusal, takeTables, afterTake}
 use Rattle.machine.specs.Step.{ownRefusal, afterOwn, serve}
 use Rattle.machine.proofs.RefusalLaws.{when-past, when-at-most}
 use Rattle.op_check.proofs.Chains.{here, past}
-use Rattle.op_run.proofs.Laws.{run-found, no-run-found, run-fits}
 use Rattle.op_form.proofs.Numbers.{op-take}
+use Rattle.op_form.proofs.Laws.{take-fields}
 use Rattle.op_refusals.specs.declared.Seat.{Seat}
 use Rattle.op_refusals.specs.Found.{SeatOf}
 use Rattle.op_outcome.specs.Outcomes.{outcomeOf, plainly}
@@ -29,6 +31,9 @@ use Rattle.op_outcome.specs.Ready.{Asks}
 use Rattle.op_outcome.proofs.Laws.{served-done, served-refused}
 use Rattle.op_take.specs.declared.Decision.{Decision}
 use Rattle.op_take.specs.Decides.{refusedBy, Decides}
+
+some-sheets : (r : Request) → Asks 1 r → 1 ≤ r .count
+some-sheets r asks = take-fields r (asks .early) (asks .number) .count-low
 
 -- ---- the tests
 module _ (t : Tables) (r : Request) where
@@ -54,13 +59,13 @@ module _ (t : Tables) (r : Request) where
             past 9 (sym (seat .full) ∙ place)
             (past 10 (lt-leb 65535 (lastOf t (r .pad) (r .program)) (omega (arith, left, seat .last))) e)
 
-        module _ {first : ℕ} (e : first ≡ lowestRun (t .entries) (r .count)) where
+        module _ (asks : Asks 1 r) {first : ℕ} (e : first ≡ bestFit (t .entries) (r .count)) where
           pub no-run : 256 ≤ first → {d : Decision} → d ≡ refusedBy 11 → Decides t r d
-          no-run h = refused 11 (λ z. omega (arith, z)) (by-run (here _ (ap not (no-run-found (t .entries) (r .count) (omega (arith, h, e))))))
+          no-run h = refused 11 (λ z. omega (arith, z)) (by-run (here _ (ap not (run-nowhere (t .entries) (r .count) (some-sheets r asks) (omega (arith, h, e))))))
 
           pub allows : first < 256 → {number : ℕ} → number ≡ p .last + 1 → Decides t r (record { result = 0; number = number; first = first })
           allows h f = record {
-            result = by-run (past 11 (ap not (run-found (t .entries) (r .count) (omega (arith, h, e)))) refl);
+            result = by-run (past 11 (ap not (run-there (t .entries) (r .count) (some-sheets r asks) (omega (arith, h, e)))) refl);
             number = λ _. omega (arith, f, seat .last);
             first = λ _. e;
           }
@@ -68,13 +73,13 @@ module _ (t : Tables) (r : Request) where
 -- ---- what it leaves
 module _ (t : Tables) (r : Request) where
   -- an accepted take found a run
-  pub run-in-store : takeRefusal t r ≡ 0 → lowestRun (t .entries) (r .count) + r .count ≤ 256
-  unfolding takeRefusal hasRun
-  run-in-store e =
+  pub run-in-store : Asks 1 r → takeRefusal t r ≡ 0 → bestFit (t .entries) (r .count) + r .count ≤ 256
+  unfolding takeRefusal
+  run-in-store asks e =
       let p₉ = when-past 9 (not (hasPlace t (r .pad) (r .program))) _ 0 (λ z. omega (arith, z)) e in
       let p₁₀ = when-past 10 (isSpent t (r .pad) (r .program)) _ 0 (λ z. omega (arith, z)) (p₉ .1) in
       let p₁₁ = when-past 11 (not (hasRun (t .entries) (r .count))) 0 0 (λ z. omega (arith, z)) (p₁₀ .1) in
-      run-fits (t .entries) (r .count) (ltb-true (lowestRun (t .entries) (r .count)) 256 (not-false _ (p₁₁ .0)))
+      best-fits (t .entries) (r .count) (some-sheets r asks) (not-false _ (p₁₁ .0))
 
   -- 12 is none of a take's refusals
   not-lost : takeRefusal t r ≡ 12 → ⊥
@@ -94,7 +99,7 @@ module _ (t : Tables) (r : Request) where
 
     -- the ticket and the entry that the code has made
     pub taken : takeRefusal t r ≡ 0 → {number : ℕ} → number ≡ newName t (r .pad) (r .program) .number
-        → {first : ℕ} → first ≡ lowestRun (t .entries) (r .count)
+        → {first : ℕ} → first ≡ bestFit (t .entries) (r .count)
         → {k : Ticket} → k ≡ headTicket Taken (nameOf (r .pad) (r .program) number) first (r .count) (rightsOf (r .rights))
         → {none : Name} → none ≡ noName
         → {e : Entry} → e ≡ entryFor (nameOf (r .pad) (r .program) number) none first (r .count) (rightsOf (r .rights))

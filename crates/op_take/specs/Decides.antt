@@ -2,8 +2,8 @@
 use Prim.Native.Nat.{ℕ}
 use mathlib.Core.Path.{_≡_}
 use Rattle.tables.specs.declared.Tables.{Tables}
-use Rattle.tables.specs.Sheets.{lowestRun}
 use Rattle.tables.specs.Change.{newName}
+use Rattle.best_fit.specs.BestFit.{bestFit}
 use Rattle.machine.specs.declared.Request.{Request}
 use Rattle.machine.specs.Take.{takeRefusal}
 use Rattle.op_take.specs.declared.Decision.{Decision}
@@ -15,4 +15,4 @@ pub record Decides (t : Tables) (r : Request) (d : Decision) : Type 0 where
   pub result : d .result ≡ takeRefusal t r
   -- where it is accepted
   pub number : d .result ≡ 0 → d .number ≡ newName t (r .pad) (r .program) .number
-  pub first : d .result ≡ 0 → d .first ≡ lowestRun (t .entries) (r .count)
+  pub first : d .result ≡ 0 → d .first ≡ bestFit (t .entries) (r .count)

@@ -16,7 +16,7 @@ use machine::Request;
 use tables::Kind;
 use tables::Name;
 
-// What is decided of a take: its refusal, 0 where the step accepts it; and then the new number, and the first sheet of the lowest run.
+// What is decided of a take: its refusal, 0 where the step accepts it; and then the new number, and the first sheet.
 pub struct Decision {
     pub result: u16,
     pub number: u16,
@@ -45,7 +45,7 @@ pub fn allowed(image: &[u8], r: Request) -> Decision
     if 65535 <= p.last {
         return refused(10);
     }
-    let first = op_run::lowest_run(image, r.count as usize);
+    let first = op_run::best_fit(image, r.count as usize);
     if 256 <= first {
         return refused(11);
     }
@@ -56,7 +56,7 @@ pub fn allowed(image: &[u8], r: Request) -> Decision
     }
 }
 
-// The lowest run of free sheets is taken, its bytes set to 0.
+// A run of free sheets is taken, its bytes set to 0.
 pub fn take(image: &mut [u8], store: &mut [u8], r: Request) -> Answer
     requires { ⌜ (isImage (now image) ≡ true) × ((length (now store) ≡ 16384) × Asks 1 r) ⌝ }
     ensures { λ a. ⌜ ((sheet : List ℕ) → Serves (serve (stateOf (decode (now (image .entry))) (now (store .entry)) sheet) r) a (now (image .exit)) (now (store .exit)) sheet) ⌝ }

@@ -1,22 +1,19 @@
--- The tests of sheets decide what they say: runs within and apart, T2, and the lowest free run. Each has a law from the test to the statement
--- (of) and one back (test). Then how containment goes on.
+-- The tests of sheets decide what they say: runs within and apart, and T2. Each has a law from the test to the statement (of) and one back
+-- (test). Then how containment goes on.
 use Prim.Native.Nat.{ℕ, _+_, _≤_, _<_}
 use native.Mathlib.Omega.{arith}
 use mathlib.Core.Path.{_≡_}
 use mathlib.Core.Logic.{inl, inr, _⊎_}
 use mathlib.Core.Bool.{true}
-use mathlib.Core.List.{List}
 use lib.Dec.{leb}
-use borrow.Author.Tests.{leb-true, le-leb, ltb-true}
+use borrow.Author.Tests.{leb-true, le-leb}
 use Rattle.lists.specs.Tests.{between}
-use Rattle.lists.specs.Lists.{all}
 use Rattle.lists.proofs.Tests.{Case, pass, fail, case, and-l, and-r, and-intro, or-right, between-low, between-high, between-test}
-use Rattle.lists.proofs.Search.{least-passes}
 use Rattle.rights.specs.declared.Rights.{Rights}
 use Rattle.rights.specs.Rules.{within}
 use Rattle.rights.proofs.Rules.{within-refl, within-trans}
 use Rattle.tables.specs.declared.{Ticket.Ticket, Entry.Entry}
-use Rattle.tables.specs.Sheets.{apart, inside, outside, isFreeRun, lowestRun, hasRun}
+use Rattle.tables.specs.Sheets.{apart, inside, outside}
 use Rattle.tables.specs.Order.{spanOk}
 use Rattle.preservation.specs.Rules.{Span, Inside, Apart}
 
@@ -93,17 +90,3 @@ beside f c h d a (inr x) y = inl (omega arith)
 pub outside-of : (f c : ℕ) (e : Entry) → outside f c e ≡ true → e .live ≡ true → Apart f c (e .first) (e .count)
 unfolding outside
 outside-of f c e h l = apart-of f c (e .first) (e .count) (rw l at h)
-
--- ---- the lowest run that lies outside all entries, where there is one
-module _ (entries : List Entry) (count : ℕ) (has : hasRun entries count ≡ true) where
-  is-free : isFreeRun entries count (lowestRun entries count) ≡ true
-  unfolding hasRun lowestRun
-  is-free = least-passes (isFreeRun entries count) 256 0 (ltb-true (lowestRun entries count) 256 has)
-
-  pub run-fits : lowestRun entries count + count ≤ 256
-  unfolding isFreeRun
-  run-fits = leb-true (lowestRun entries count + count) 256 (and-l (leb (lowestRun entries count + count) 256) _ is-free)
-
-  pub run-outside : all (outside (lowestRun entries count) count) entries ≡ true
-  unfolding isFreeRun
-  run-outside = and-r (leb (lowestRun entries count + count) 256) _ is-free

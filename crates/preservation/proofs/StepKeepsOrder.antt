@@ -12,8 +12,9 @@ use Rattle.lists.proofs.Tests.{Case, pass, fail, case}
 use Rattle.tables.specs.declared.Tables.{Tables}
 use Rattle.tables.specs.Lookup.{Sized}
 use Rattle.tables.specs.Order.{inOrder}
-use Rattle.tables.specs.Sheets.{lowestRun}
 use Rattle.tables.proofs.KindLaws.{taken-head, head-grant}
+use Rattle.best_fit.specs.BestFit.{bestFit}
+use Rattle.best_fit.proofs.Laws.{best-fits}
 use Rattle.machine.specs.declared.Request.{Request}
 use Rattle.machine.specs.State.{State, accepted, refused, withTables, clearSheets, askedName, asked}
 use Rattle.machine.specs.Refusal.{_when_else_}
@@ -28,7 +29,6 @@ use Rattle.machine.specs.Empty.{emptyDock}
 use Rattle.machine.specs.Sequence.{Sent, enter, after}
 use Rattle.machine.proofs.RefusalLaws.{other-length, whole-lengths}
 use Rattle.preservation.specs.InOrder.{InOrder, DockOk}
-use Rattle.preservation.proofs.SheetTests.{run-fits}
 use Rattle.preservation.proofs.StoreSheets.{length-put}
 use Rattle.preservation.proofs.Preconditions.{Past, late-0, past-request, MayUse, may-take, may-give-back, may-use}
 use Rattle.preservation.proofs.Results.{serve-result, request-refusal-low}
@@ -48,7 +48,7 @@ own-keeps-length : (s : State) (r : Request) → InOrder (s .tables) → length 
 unfolding ownRefusal afterOwn accepted withTables afterTake afterPass afterRecall afterGiveBack afterRead afterWrite
 own-keeps-length s r ok size buf taking p q f e =
     let may = may-take (s .tables) r p q f e in
-    cleared-length (lowestRun (s .tables .entries) (r .count)) (r .count) (s .store) size (run-fits (s .tables .entries) (r .count) (may .run))
+    cleared-length (bestFit (s .tables .entries) (r .count)) (r .count) (s .store) size (best-fits (s .tables .entries) (r .count) (may .some) (may .run))
 own-keeps-length s r ok size buf passing p q f e = size
 own-keeps-length s r ok size buf recalling p q f e = size
 own-keeps-length s r ok size buf givingBack p q f e =

@@ -16,19 +16,21 @@ use Rattle.tables.specs.declared.Kind.the-variants.{Taken}
 use Rattle.tables.specs.Names.{noName, eqName, sameProgram, noEntry, headTicket, entryFor}
 use Rattle.tables.specs.Lookup.{programAt, ticketsOf, lastOf, lookup, entryOf}
 use Rattle.tables.specs.Change.{isFree, hasPlace, newName, give, isSpare, putEntry}
-use Rattle.tables.specs.Sheets.{outside, lowestRun, hasRun}
+use Rattle.tables.specs.Sheets.{outside, hasRun}
 use Rattle.tables.specs.Order.{underStore}
 use Rattle.tables.proofs.NameLaws.{eqName-true, eqName-ne, program-same}
 use Rattle.machine.specs.declared.Request.{Request}
 use Rattle.machine.specs.Take.{takeTables}
 use Rattle.preservation.specs.Rules.{Apart, Given, here}
 use Rattle.preservation.specs.InOrder.{Shape, InOrder}
-use Rattle.preservation.proofs.SheetTests.{outside-of, run-fits, run-outside}
+use Rattle.preservation.proofs.SheetTests.{outside-of}
 use Rattle.preservation.proofs.AfterChange.{Added, give-adds, entry-same, entry-other, lookup-put, shape-put}
 use Rattle.preservation.proofs.Insertion.{NewTicket, NewEntry, Inserted, order-inserted}
 use Rattle.preservation.proofs.Places.{entryPlace, entry-at-place, entry-place-low, entry-room}
 use Rattle.preservation.proofs.NewNames.{past-ticket, past-entry, past-given, not-past, not-past-entry, new-head}
 use Rattle.tables.specs.Kinds.{isLive}
+use Rattle.best_fit.specs.BestFit.{bestFit}
+use Rattle.best_fit.proofs.Laws.{best-fits, best-outside}
 
 -- what the tests of a take have shown
 pub record MayTake (t : Tables) (r : Request) : Type 0 where
@@ -57,7 +59,7 @@ module _ (t : Tables) (ok : InOrder t) (r : Request) (may : MayTake t r) where
   x = newName t (r .pad) (r .program)
 
   abbrev s : ℕ
-  s = lowestRun (t .entries) (r .count)
+  s = bestFit (t .entries) (r .count)
 
   abbrev k : Ticket
   k = headTicket Taken x s (r .count) (rightsOf (r .rights))
@@ -119,13 +121,13 @@ module _ (t : Tables) (ok : InOrder t) (r : Request) (may : MayTake t r) where
   new-x : NewTicket (lookup t₂) (entryOf t₂) (lastOf t₂) x
   new-x =
       new-head (lookup t₂) (entryOf t₂) (lastOf t₂) x Taken s (r .count) (rightsOf (r .rights)) ticket-x refl refl given-x
-      (record { some = may .some; fits = run-fits (t .entries) (r .count) (may .run); right = may .right; rights = may .rights }) (λ h. rw entry-x)
+      (record { some = may .some; fits = best-fits (t .entries) (r .count) (may .some) (may .run); right = may .right; rights = may .rights }) (λ h. rw entry-x)
 
   apart-x : (n : Name) → entryOf t n .live ≡ true → Apart s (r .count) (entryOf t n .first) (entryOf t n .count)
   apart-x n l =
       outside-of s (r .count) (entryOf t n)
       (rw (entry-at-place t ok n)
-      (all-elim noEntry (outside s (r .count)) (t .entries) (run-outside (t .entries) (r .count) (may .run)) (entryPlace t ok n)
+      (all-elim noEntry (outside s (r .count)) (t .entries) (best-outside (t .entries) (r .count) (may .some) (may .run)) (entryPlace t ok n)
       (entry-place-low t ok n l)))
       l
 

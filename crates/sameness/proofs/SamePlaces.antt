@@ -1,5 +1,5 @@
 -- Places agree in tables in order that are the same: a program has a free place in both or in neither, a run of sheets is free in both or in
--- neither, and so the lowest free run is one run.
+-- neither, and so a take would use the same one.
 use Prim.Native.Nat.{ℕ, _+_, _≤_, _<_}
 use native.Mathlib.Omega.{arith}
 use mathlib.Core.Path.{_≡_, refl, sym, ap, _∙_, fun-ext}
@@ -11,6 +11,7 @@ use Rattle.lists.proofs.Tests.{both-ways}
 use Rattle.lists.proofs.KeyedSame.{room-there}
 use Rattle.tables.specs.declared.{Ticket.Ticket, Entry.Entry, Tables.Tables}
 use Rattle.tables.specs.Names.{nameOf}
+use Rattle.tables.specs.Kinds.{isLive}
 use Rattle.tables.specs.Lookup.{ticketsOf, lookup, entryOf}
 use Rattle.tables.specs.Change.{isFree, hasPlace}
 use Rattle.tables.specs.Sheets.{apart, outside, isFreeRun, lowestRun, hasRun}
@@ -18,11 +19,12 @@ use Rattle.tables.specs.Order.{everyEntry}
 use Rattle.tables.specs.Same.{SameTables}
 use Rattle.tables.proofs.Keys.{ticketKeys, ticketLaws, lookup-keyed}
 use Rattle.tables.proofs.ByPlace.{every-entry-elim}
+use Rattle.best_fit.specs.BestFit.{bestFit}
+use Rattle.best_fit.proofs.Laws.{best-same}
 use Rattle.preservation.specs.InOrder.{InOrder}
 use Rattle.preservation.proofs.TestsByName.{every-entry-intro}
 use Rattle.sameness.proofs.SameIsEquivalence.{same-sym}
 use Rattle.sameness.proofs.SaidFacts.{same-kind, same-live, same-entry-first, same-entry-count}
-use Rattle.tables.specs.Kinds.{isLive}
 
 -- ---- one way
 module _ (t u : Tables) (ok : InOrder t) (ok′ : InOrder u) (same : SameTables t u) where
@@ -67,11 +69,13 @@ module _ (t u : Tables) (ok : InOrder t) (ok′ : InOrder u) (same : SameTables 
   outside-same f c =
       outside-test f c t ∙ both-ways _ _ (apart-there t u ok ok′ same f c) (apart-there u t ok′ ok (same-sym t u same) f c) ∙ sym (outside-test f c u)
 
-  pub run-same : (c : ℕ) → lowestRun (t .entries) c ≡ lowestRun (u .entries) c
-  unfolding lowestRun isFreeRun
-  run-same c =
-      ap (λ (test : ℕ → Bool). least test 256 0) (fun-ext (λ f. ap (λ (b : Bool). leb (f + c) 256 && b) (outside-same f c)))
+  free-same : (c f : ℕ) → isFreeRun (t .entries) c f ≡ isFreeRun (u .entries) c f
+  unfolding isFreeRun
+  free-same c f = ap (λ (b : Bool). leb (f + c) 256 && b) (outside-same f c)
+
+  pub run-same : (c : ℕ) → bestFit (t .entries) c ≡ bestFit (u .entries) c
+  run-same = best-same (t .entries) (u .entries) free-same
 
   pub has-run-same : (c : ℕ) → hasRun (t .entries) c ≡ hasRun (u .entries) c
-  unfolding hasRun
-  has-run-same c = ap (λ (f : ℕ). ltb f 256) (run-same c)
+  unfolding hasRun lowestRun
+  has-run-same c = ap (λ (test : ℕ → Bool). ltb (least test 256 0) 256) (fun-ext (free-same c))

@@ -7,9 +7,9 @@ use Rattle.tables.specs.declared.{Name.Name, Program.Program, Tables.Tables}
 use Rattle.tables.specs.Names.{eqName, sameProgram}
 use Rattle.tables.specs.Lookup.{lastOf, lookup, entryOf}
 use Rattle.tables.specs.Change.{newName}
-use Rattle.tables.specs.Sheets.{lowestRun}
 use Rattle.tables.specs.Same.{said, saidEntry, SameTables}
 use Rattle.tables.proofs.NameLaws.{eqName-true, eqName-ne, program-same}
+use Rattle.best_fit.specs.BestFit.{bestFit}
 use Rattle.machine.specs.declared.Request.{Request}
 use Rattle.machine.specs.Take.{takeTables}
 use Rattle.preservation.specs.InOrder.{InOrder}
@@ -49,7 +49,7 @@ pub same-after-take : (t u : Tables) → InOrder t → InOrder u → SameTables 
 same-after-take t u ok ok′ same r may may′ =
     let name : newName u (r .pad) (r .program) ≡ newName t (r .pad) (r .program)
     = sym (new-name-same t u same (r .pad) (r .program) (may .pad) (may .program)) in
-    let run : lowestRun (u .entries) (r .count) ≡ lowestRun (t .entries) (r .count) = sym (run-same t u ok ok′ same (r .count)) in
-    same-effect t u (takeTables t r) (takeTables u r) same r (newName t (r .pad) (r .program)) (lowestRun (t .entries) (r .count)) (take-effect t ok r may)
-    (subst (λ (x : Name). TakeEffect u (takeTables u r) r x (lowestRun (t .entries) (r .count))) name
+    let run : bestFit (u .entries) (r .count) ≡ bestFit (t .entries) (r .count) = sym (run-same t u ok ok′ same (r .count)) in
+    same-effect t u (takeTables t r) (takeTables u r) same r (newName t (r .pad) (r .program)) (bestFit (t .entries) (r .count)) (take-effect t ok r may)
+    (subst (λ (x : Name). TakeEffect u (takeTables u r) r x (bestFit (t .entries) (r .count))) name
     (subst (TakeEffect u (takeTables u r) r (newName u (r .pad) (r .program))) run (take-effect u ok′ r may′)))

@@ -26,7 +26,7 @@ outside first count e = not (e .live) || apart first count (e .first) (e .count)
 unfoldable pub isFreeRun : List Entry → ℕ → ℕ → Bool
 isFreeRun entries count first = leb (first + count) 256 && all (outside first count) entries
 
--- the first sheet of "the lowest such run"; 256 where there is none
+-- the first sheet of the lowest such run, 256 where there is none: whether there is one. Which one a take uses, best_fit says (02, 5/13)
 unfoldable pub lowestRun : List Entry → ℕ → ℕ
 lowestRun entries count = least (isFreeRun entries count) 256 0
 

@@ -5,7 +5,7 @@ use Prim.Native.String.{String}
 use mathlib.Core.List.{List, [], _∷_, _++_}
 use mathlib.Core.Path.{_≡_, refl}
 use Rattle.lists.specs.Tests.{implies, between}
-use Rattle.lists.specs.Lists.{firstIndex, all, some, noTwo, allAt, someAt, mapAt, least}
+use Rattle.lists.specs.Lists.{firstIndex, all, some, keep, noTwo, allAt, someAt, mapAt, least}
 use Rattle.rights.specs.Rules.{within}
 use Rattle.tables.specs.Names.{eqName, isProgram, sameProgram, emptyTables}
 use Rattle.tables.specs.Lookup.{hasNumber, ticketIn, lookup, isNamed, entryIn}
@@ -13,6 +13,7 @@ use Rattle.tables.specs.Chains.{reaches, endOf}
 use Rattle.tables.specs.Sheets.{apart, inside, outside, isFreeRun, lowestRun, hasRun}
 use Rattle.tables.specs.Order.{everyTicketOf, everyTicket, someTicketOf, someTicket, everyEntry, numbersOk, t1, spanOk, t2, parentOk, childOk, t3, t4, entryNamesOk, grantOk, parentEntryOk, entryOk, rootsOk, t5, recallParentOk, isChildOf, farTargetOk, targetOk, recallOk, t6, inOrder}
 use Rattle.tables.specs.Change.{isFree, hasPlace, withTicket, withProgram, give, isSpare, putEntry, dropTicket, dropInProgram, dropInPad, dropTickets, dropEntry, dropEntries}
+use Rattle.best_fit.specs.BestFit.{runAt, smallestBelow, bestFit}
 use Rattle.machine.specs.State.{accepted, refused, withTables, sheetAt, putSheets, clearSheets}
 use Rattle.machine.specs.Refusal.{_when_else_, isSpent}
 use Rattle.machine.specs.Operation.{operationOf, usedBy, fieldOk, fieldsOk}
@@ -147,9 +148,9 @@ pub record Texts : Type 0 where
   pub no-last-end : trace (names ++ lineEnd ∷ bytes "0 0 1 0 0 0 0 1 7 0") ≡ ended ("line result ticket recipient byte" ∷ "1 0 1 0 0" ∷ [])
 
 pub texts : Texts
-unfolding implies between firstIndex all some noTwo allAt someAt mapAt least within
+unfolding implies between firstIndex all some keep noTwo allAt someAt mapAt least within
     eqName isProgram sameProgram emptyTables hasNumber ticketIn lookup isNamed entryIn reaches endOf
-    apart inside outside isFreeRun lowestRun hasRun
+    apart inside outside isFreeRun lowestRun hasRun runAt smallestBelow bestFit
     everyTicketOf everyTicket someTicketOf someTicket everyEntry numbersOk t1 spanOk t2 parentOk childOk t3 t4
     entryNamesOk grantOk parentEntryOk entryOk rootsOk t5 recallParentOk isChildOf farTargetOk targetOk recallOk t6 inOrder
     isFree hasPlace withTicket withProgram give isSpare putEntry dropTicket dropInProgram dropInPad dropTickets dropEntry dropEntries

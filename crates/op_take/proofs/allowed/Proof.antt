@@ -2,7 +2,7 @@ use mathlib.Core.Path.{refl, ap, _∙_}
 use mathlib.Core.List.{List}
 use borrow.Author.Needs.{needs}
 use Rattle.tables.specs.declared.Entry.{Entry}
-use Rattle.tables.specs.Sheets.{lowestRun}
+use Rattle.best_fit.specs.BestFit.{bestFit}
 use Rattle.image.specs.Image.{decode}
 use Rattle.image_read.proofs.Places.{entries-decoded}
 use Rattle.op_form.proofs.Laws.{sender-possible, take-fields}
@@ -31,11 +31,11 @@ returns-2 c =
     let s = c .before .before .before .before .before .before in
     spent (decode (s .args .image .now)) (s .args .r) _ (c .before .before .before .before .seat .ensures) (c .before .before .before .if1 .left) (c .before .if2 .taken) (c .refused2 .ensures)
 
-cast-lowest-run : tie.Need-cast-lowest-run
-cast-lowest-run c = search needs
+cast-best-fit : tie.Need-cast-best-fit
+cast-best-fit c = search needs
 
-lowest-run-requires : tie.Need-lowest-run-requires
-lowest-run-requires c κs =
+best-fit-requires : tie.Need-best-fit-requires
+best-fit-requires c κs =
     let s = c .before .before .before .before .before .before in
     let fields = take-fields (s .args .r) (s .pre .1 .early) (s .pre .1 .number) in
     (s .pre .0, fields .count-low, fields .count-high)
@@ -47,8 +47,8 @@ returns-3 : tie.Need-returns-3
 returns-3 c =
     let s = c .before .before .before .before .before .before .before .before .before in
     let r = s .args .r in
-    let run = c .before .before .lowest-run .ensures ∙ ap (λ (es : List Entry). lowestRun es (r .count)) (entries-decoded (s .args .image .now)) in
-    no-run (decode (s .args .image .now)) r _ (c .before .before .before .before .before .before .before .seat .ensures) (c .before .before .before .before .before .before .if1 .left) (c .before .before .before .before .if2 .left) run (c .before .if3 .taken) (c .refused3 .ensures)
+    let run = c .before .before .best-fit .ensures ∙ ap (λ (es : List Entry). bestFit es (r .count)) (entries-decoded (s .args .image .now)) in
+    no-run (decode (s .args .image .now)) r _ (c .before .before .before .before .before .before .before .seat .ensures) (c .before .before .before .before .before .before .if1 .left) (c .before .before .before .before .if2 .left) (s .pre .1) run (c .before .if3 .taken) (c .refused3 .ensures)
 
 add-t7 : tie.Need-add-t7
 add-t7 c = search needs
@@ -60,8 +60,8 @@ returns-4 : tie.Need-returns-4
 returns-4 c =
     let s = c .before .before .before .before .before .before .before .before .before in
     let r = s .args .r in
-    let run = c .before .before .lowest-run .ensures ∙ ap (λ (es : List Entry). lowestRun es (r .count)) (entries-decoded (s .args .image .now)) in
-    allows (decode (s .args .image .now)) r _ (c .before .before .before .before .before .before .before .seat .ensures) (c .before .before .before .before .before .before .if1 .left) (c .before .before .before .before .if2 .left) run (c .before .if3 .left) refl
+    let run = c .before .before .best-fit .ensures ∙ ap (λ (es : List Entry). bestFit es (r .count)) (entries-decoded (s .args .image .now)) in
+    allows (decode (s .args .image .now)) r _ (c .before .before .before .before .before .before .before .seat .ensures) (c .before .before .before .before .before .before .if1 .left) (c .before .before .before .before .if2 .left) (s .pre .1) run (c .before .if3 .left) refl
 
 pub allowed-spec : {M : Type 1} → statement M
 allowed-spec =
@@ -72,8 +72,8 @@ allowed-spec =
     returns
     refused-requires-2
     returns-2
-    cast-lowest-run
-    lowest-run-requires
+    cast-best-fit
+    best-fit-requires
     refused-requires-3
     returns-3
     add-t7

@@ -36,7 +36,7 @@ clear-sheets-requires : tie.Need-clear-sheets-requires
 clear-sheets-requires c κs =
     let s = c .before .before .before .before .before .before .before .before .before in
     let d = c .before .before .before .before .before .allowed .ensures in
-    let fits = run-in-store (decode (s .args .image .now)) (s .args .r) (sym (d .result) ∙ c .before .before .before .if1 .left) in
+    let fits = run-in-store (decode (s .args .image .now)) (s .args .r) (s .pre .1 .1) (sym (d .result) ∙ c .before .before .before .if1 .left) in
     (s .pre .1 .0, omega (arith, fits, d .first (c .before .before .before .if1 .left)))
 
 none-requires : tie.Need-none-requires

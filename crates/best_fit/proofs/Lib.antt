@@ -1,0 +1,4 @@
+pub mod FreeRuns
+pub mod Smallest
+pub mod Laws
+pub mod Edges

@@ -1,0 +1,2 @@
+pub mod BestFit
+pub mod Claims
