@@ -112,18 +112,20 @@ impl SheetSet {
         self.0.iter().map(|word| word.count_ones() as u16).sum()
     }
 
-    /// The lowest run of `count` sheets outside the set.
-    pub fn lowest_gap(&self, count: u16) -> Option<u16> {
+    /// Where the smallest gap with room for `count` sheets begins; of equals the lowest. A gap is a run of sheets
+    /// outside the set that can't be made longer.
+    pub fn smallest_gap(&self, count: u16) -> Option<u16> {
         let count = u32::from(count);
+        let (mut found, mut size) = (None, u32::MAX);
         let mut at = self.next(0, false);
         while at + count <= SHEETS as u32 {
             let end = self.next(at, true);
-            if end - at >= count {
-                return Some(at as u16);
+            if (count..size).contains(&(end - at)) {
+                (found, size) = (Some(at as u16), end - at);
             }
             at = self.next(end, false);
         }
-        None
+        found
     }
 
     /// The first sheet from `at` on that is in the set, or that is outside it; 256 where there is none.
@@ -144,24 +146,76 @@ impl SheetSet {
 mod tests {
     use super::*;
 
+    /// Each run of sheets that are not used, from its first sheet to behind its last.
+    fn gaps(used: &[bool; SHEETS]) -> Vec<(usize, usize)> {
+        let free = |sheet: usize| sheet < SHEETS && !used[sheet];
+        let begins = (0..SHEETS).filter(|&sheet| free(sheet) && (sheet == 0 || !free(sheet - 1)));
+        let ends = (1..=SHEETS).filter(|&sheet| free(sheet - 1) && !free(sheet));
+        begins.zip(ends).collect()
+    }
+
     #[test]
     fn gaps_are_found_as_a_sheet_by_sheet_search_finds_them() {
-        let mut seed = 1u32;
-        for _ in 0..2000 {
+        let (mut seed, mut choices) = (1u32, 0);
+        for round in 0..3000 {
             let (mut set, mut plain) = (SheetSet::default(), [false; SHEETS]);
-            for _ in 0..8 {
+            // Few long runs, or many short ones.
+            let (runs, longest) = [(8, 70), (24, 12), (70, 4)][round % 3];
+            for _ in 0..runs {
                 seed = seed.wrapping_mul(1_664_525).wrapping_add(1_013_904_223);
-                let (first, most) = ((seed >> 24) as u16, (seed >> 8) as u16 % 70);
+                let (first, most) = ((seed >> 24) as u16, (seed >> 8) as u16 % longest);
                 let run = Sheets { first, count: most.min(SHEETS as u16 - first) };
                 let span = run.first as usize..(run.first + run.count) as usize;
                 assert_eq!(set.add(run), !plain[span.clone()].contains(&true));
                 plain[span].fill(true);
             }
             assert_eq!(usize::from(set.count()), plain.iter().filter(|&&used| used).count());
-            for count in [1, 2, 3, 17, 64, 65, 255, 256] {
-                let found = plain.windows(count).position(|run| !run.contains(&true));
-                assert_eq!(set.lowest_gap(count as u16).map(usize::from), found);
+            for count in (1..=20).chain([63, 64, 65, 255, 256]) {
+                let enough: Vec<_> = gaps(&plain).into_iter().filter(|(at, end)| end - at >= count).collect();
+                let best = enough.iter().min_by_key(|(at, end)| (end - at, *at));
+                assert_eq!(set.smallest_gap(count as u16).map(usize::from), best.map(|(at, _)| *at));
+                choices += usize::from(best != enough.first());
             }
         }
+        // Often the smallest is not the lowest.
+        assert!(choices > 10_000, "{choices}");
+    }
+
+    /// The set of all sheets but these runs, each of which is its first sheet and how many.
+    fn all_but(gaps: &[(u16, u16)]) -> SheetSet {
+        let (mut set, mut at) = (SheetSet::default(), 0);
+        for &(first, count) in gaps {
+            set.add(Sheets { first: at, count: first - at });
+            at = first + count;
+        }
+        set.add(Sheets { first: at, count: SHEETS as u16 - at });
+        set
+    }
+
+    #[test]
+    fn of_the_gaps_with_room_the_smallest_and_of_equals_the_lowest() {
+        let finds = |gaps: &[(u16, u16)], count| all_but(gaps).smallest_gap(count);
+        // An exact fit, below and above a larger gap.
+        assert_eq!(finds(&[(10, 5), (100, 20)], 5), Some(10));
+        assert_eq!(finds(&[(10, 20), (100, 5)], 5), Some(100));
+        // Equal gaps.
+        assert_eq!(finds(&[(10, 5), (100, 5), (200, 5)], 5), Some(10));
+        assert_eq!(finds(&[(10, 9), (100, 5), (200, 5)], 4), Some(100));
+        // At the store's first sheet and at its last.
+        assert_eq!(finds(&[(0, 3), (50, 9)], 3), Some(0));
+        assert_eq!(finds(&[(0, 3), (255, 1)], 1), Some(255));
+        assert_eq!(finds(&[(0, 3), (255, 1)], 2), Some(0));
+        // One too short beside one too long.
+        assert_eq!(finds(&[(10, 4), (20, 6)], 5), Some(20));
+        assert_eq!(finds(&[(10, 6), (20, 4)], 5), Some(10));
+        // Over the edges of words.
+        assert_eq!(finds(&[(60, 9), (120, 8), (190, 66)], 8), Some(120));
+        assert_eq!(finds(&[(0, 130), (131, 64), (200, 56)], 60), Some(131));
+        // Everything free, nothing free, nothing long enough.
+        assert_eq!(finds(&[(0, 256)], 256), Some(0));
+        assert_eq!(finds(&[(0, 256)], 1), Some(0));
+        assert_eq!(finds(&[], 1), None);
+        assert_eq!(finds(&[(0, 255)], 256), None);
+        assert_eq!(finds(&[(10, 4), (20, 6)], 7), None);
     }
 }

@@ -1,4 +1,4 @@
-//! Document 01 in plain Rust, with document 02's first four requests, as docs/DECISIONS.md reads them: a second
+//! Document 01 in plain Rust, with document 02's first five requests, as docs/DECISIONS.md reads them: a second
 //! implementation that the proved library is compared with and timed against. It shares no code and no layout
 //! with the library.
 //!
@@ -300,7 +300,7 @@ impl State {
                 used.add(eight.item(place).sheets);
             }
         }
-        let first = used.lowest_gap(request.count).ok_or(Refusal::NoRun)?;
+        let first = used.smallest_gap(request.count).ok_or(Refusal::NoRun)?;
         let (sheets, rights) = (Sheets { first, count: request.count }, request.rights);
         store[bytes(sheets)].fill(0);
         let number = self.next_number(seat);
