@@ -5,12 +5,14 @@
 mod damage;
 mod damaged_texts;
 mod follow;
+mod holes;
 mod reports;
 mod saved;
 mod texts;
 
-use dock::{raw, ANSWER, RECALL, REQUEST};
+use dock::{raw, ANSWER, RECALL, REQUEST, TAKE};
 use follow::Followed;
+use holes::Holes;
 use image::random::Rng;
 use image::View;
 use model::{Answer, Name, Request, State, SEATS, SHEET, STORE};
@@ -39,6 +41,7 @@ struct Counts {
     /// Those that break one clause alone.
     one_clause: [usize; damage::ONE_CLAUSE.len()],
     followed: Followed,
+    holes: Holes,
     batches: usize,
     traces: usize,
     checks: usize,
@@ -58,7 +61,8 @@ impl Counts {
         let one_clause = damage::ONE_CLAUSE.iter().map(|(what, _)| *what).zip(self.one_clause);
         let others =
             [("batches", self.batches), ("checks of the dock", self.checks), ("traces", self.traces)];
-        let all = self.followed.rows().into_iter().chain(images).chain(one_clause).chain(others);
+        let noted = self.followed.rows().into_iter().chain(self.holes.rows());
+        let all = noted.chain(images).chain(one_clause).chain(others);
         rows.extend(all.map(|(what, count)| (what.to_string(), count)));
         rows.extend(self.reports.rows());
         rows.extend(self.saved.rows());
@@ -375,12 +379,15 @@ impl Driver {
             self.counts.results[13] += 1;
         }
         self.counts.requests += 1;
-        let before = if request.op == RECALL { sides.state.clone() } else { None };
+        let before = if matches!(request.op, RECALL | TAKE) { sides.state.clone() } else { None };
         let served = sides.step(&request, self.rng.sheet())?;
         let [result, ticket, recipient] = served.answer;
         self.counts.results[result as usize] += 1;
         if let (0, Some(before), Some(after)) = (result, &before, &sides.state) {
-            self.counts.followed.note(&request, before, after);
+            match request.op {
+                TAKE => self.counts.holes.note(&request, before),
+                _ => self.counts.followed.note(&request, before, after),
+            }
         }
         asker.heard(&mut self.rng, &request, &Answer { result, ticket, recipient });
         if self.rng.once_in(8) {

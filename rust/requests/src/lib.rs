@@ -1,5 +1,6 @@
 //! Random requests of some of the programs among themselves, which lean towards what is rare: deep chains,
-//! loans on a pad that go on to other pads, stale grants, full places, several faults in one request.
+//! loans on a pad that go on to other pads, stale grants, full places, holes of several sizes in the store,
+//! several faults in one request.
 
 use image::random::Rng;
 use model::{Answer, Grant, Name, Request, Source, State, Ticket, PASS_ON, SEATS};
@@ -56,8 +57,7 @@ pub struct Asker {
     weights: [usize; 6],
     /// Passes to another pad, of a hundred.
     far: usize,
-    /// Takes are large.
-    large: bool,
+    sizes: Sizes,
     /// Rights and sheets are mostly passed whole.
     whole: bool,
     /// One request in so many gets wrong numbers.
@@ -65,6 +65,15 @@ pub struct Asker {
     chain: Option<Chain>,
     /// Requests that follow an earlier one.
     after: VecDeque<Request>,
+}
+
+/// How many sheets are taken.
+#[derive(Clone, Copy)]
+enum Sizes {
+    Short,
+    Long,
+    /// Short and long ones in turn: what is given back leaves holes of several sizes.
+    Mixed,
 }
 
 /// A taken grant that is lent once, and what was lent is lent on and on.
@@ -108,14 +117,21 @@ const WEIGHTS: [[usize; 6]; 6] = [
     [8, 2, 1, 4, 3, 3],
     [2, 6, 2, 1, 12, 12],
 ];
+/// What is taken is soon given back.
+const COME_AND_GO: [usize; 6] = [8, 1, 0, 7, 1, 1];
 
 impl Asker {
     pub fn new(rng: &mut Rng, seats: Seats) -> Self {
+        let sizes = [Sizes::Short, Sizes::Short, Sizes::Short, Sizes::Long, Sizes::Mixed][rng.below(5)];
+        let weights = match sizes {
+            Sizes::Mixed if !rng.once_in(3) => COME_AND_GO,
+            _ => WEIGHTS[rng.below(WEIGHTS.len())],
+        };
         Asker {
             seats,
-            weights: WEIGHTS[rng.below(WEIGHTS.len())],
+            weights,
             far: [0, 15, 50, 50, 90][rng.below(5)],
-            large: rng.once_in(5),
+            sizes,
             whole: rng.once_in(2),
             ill: [8, 16, 200][rng.below(3)],
             chain: rng.once_in(4).then(|| {
@@ -258,10 +274,10 @@ impl Asker {
     }
 
     fn take(&self, rng: &mut Rng, live: &[(Name, Ticket)]) -> Request {
-        let count = if self.large {
-            [256, 255, 128, 100, 64, 1 + rng.below(256), 1 + rng.below(256)][rng.below(7)]
-        } else {
-            1 + rng.below(4)
+        let count = match self.sizes {
+            Sizes::Short => 1 + rng.below(4),
+            Sizes::Long => [256, 255, 128, 100, 64, 1 + rng.below(256), 1 + rng.below(256)][rng.below(7)],
+            Sizes::Mixed => 1 + [rng.below(3), rng.below(12), rng.below(48)][rng.below(3)],
         };
         let rights = if rng.once_in(4) { 1 + rng.below(7) as u16 } else { 7 };
         let seat = if rng.once_in(3) { self.busy(rng, live) } else { self.seats.pick(rng) };
