@@ -53,7 +53,7 @@ extern "C" {
 #define DOCK_SAVED_ROOM 18309   /* bytes that every saved text fits into */
 
 /* The version that this header belongs to: major * 10000 + minor * 100 + patch. */
-#define DOCK_VERSION 30000
+#define DOCK_VERSION 40000
 
 /*
  * Bytes of stack that a call may take, its own frame included. dock_report has its own number, because
