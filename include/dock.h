@@ -71,7 +71,13 @@ extern "C" {
 #define DOCK_ENTRIES 256 /* places for entries in the dock */
 #define DOCK_SHEETS 256  /* sheets 0 to 255 in the store */
 
-/* Operations, with the fields of a request that each uses. The other fields must be 0. */
+/*
+ * Operations, with the fields of a request that each uses. The other fields must be 0.
+ *
+ * A take uses the smallest free run that is long enough, the lowest one among equals, from its lowest sheet;
+ * a free run is one that can't be made longer. Its answer does not tell which sheets these are, since a
+ * program counts from its ticket's first one; dock_check, dock_report and dock_save do.
+ */
 enum dock_operation {
     DOCK_TAKE = 1,      /* count, rights: sheets from the store, as zeros */
     DOCK_PASS = 2,      /* ticket, topad, toprogram, first, count, rights: lends a part */
@@ -118,7 +124,7 @@ enum dock_result {
     DOCK_TO_ONESELF = 8,    /* the recipient is the asker */
     DOCK_NO_PLACE = 9,      /* asker or recipient has eight tickets */
     DOCK_NO_NUMBER = 10,    /* asker's or recipient's last number is 65,535 */
-    DOCK_NO_RUN = 11,       /* the store has no run of so many free sheets */
+    DOCK_NO_RUN = 11,       /* no free run of the store is long enough */
     DOCK_NO_ENTRY = 12,     /* the dock has no entry of the ticket's dock name: it was recalled */
     DOCK_LENGTH = 13,       /* a buffer has another length */
     DOCK_NOT_IN_ORDER = 14, /* the bytes are no tables, or the tables are not in order */
@@ -251,7 +257,8 @@ uint16_t dock_check(const uint8_t *tables, size_t tables_length,
  * pad left the loans that were made from it to other pads, and such tables are not in order any more.
  * On DOCK_NOT_IN_ORDER the ways out are to give all takes back with the old library and then go on, or
  * to empty the dock. Tables that were never left so are in order as before. Those that version 2 left
- * are, but where a host itself wrote a parent with number 0 and a pad or program beside it.
+ * are, but where a host itself wrote a parent with number 0 and a pad or program beside it. Those that
+ * version 3 left are.
  */
 uint16_t dock_in_order(const uint8_t *tables, size_t tables_length);
 

@@ -40,7 +40,9 @@ and writes answers, a line for each under the names
 
   --save    the tables that are left go to FILE, as `dock save` writes them
 
-A text of more than 65536 bytes or with other names is answered by the line 0 15 0 0 0 alone.
+A take uses the smallest free run of sheets that is long enough, the lowest one among equals, from its
+lowest sheet; `dock report` and `dock tree` tell where. A text of more than 65536 bytes or with other names
+is answered by the line 0 15 0 0 0 alone.
 
 Example, a program that takes four sheets with all rights, and writes on the second:
   { echo 'pad program op ticket topad toprogram first count rights fill'

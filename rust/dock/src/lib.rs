@@ -92,7 +92,8 @@ pub struct Request {
 }
 
 impl Request {
-    /// Takes `count` sheets from the store.
+    /// Takes `count` sheets from the store: of the smallest free run that is long enough, the lowest one among
+    /// equals, from its lowest sheet. A free run is one that can't be made longer.
     pub fn take(pad: u16, program: u16, count: u16, rights: u16) -> Self {
         Request { pad, program, op: TAKE, count, rights, ..Request::default() }
     }
