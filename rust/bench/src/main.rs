@@ -1,7 +1,7 @@
 //! Times the proved library against the model on one machine, with the same requests from the same tables.
 //! `sh bench/run` builds and runs it.
 //!
-//! usage: bench [REQUESTS] [SEED] [FILL]     REQUESTS for each trace, usually 4000; FILL: only empty, light, mixed or full, the reports or the saved texts
+//! usage: bench [REQUESTS] [SEED] [FILL]     REQUESTS for each trace, usually 4000; FILL: only empty, light, mixed or full, the takes, the reports or the saved texts
 //!
 //! Each figure is the best of several runs, in nanoseconds for one request. Every run begins with the same
 //! tables and store; they are put back before the clock starts, and all buffers are used again, so that no
@@ -10,6 +10,7 @@
 
 mod reports;
 mod saved;
+mod takes;
 
 use dock::{raw, ANSWER, REQUEST};
 use image::random::Rng;
@@ -318,6 +319,9 @@ fn main() -> ExitCode {
         .all(|&(fill, level)| show(&trace(fill, level, length as usize, seed)));
     if only.is_none() {
         agree &= growth(length as usize, seed);
+    }
+    if only.as_ref().is_none_or(|name| name == "takes") {
+        agree &= takes::show_both();
     }
     for (texts, show) in [("reports", reports::show as fn(&str, &State) -> bool), ("saved", saved::show)] {
         if only.as_ref().is_none_or(|name| name == texts) {

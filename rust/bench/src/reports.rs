@@ -59,7 +59,7 @@ pub fn every_place() -> State {
 }
 
 /// The new numbers of an accepted request.
-fn ask(state: &mut State, request: Request) -> (u16, u16) {
+pub fn ask(state: &mut State, request: Request) -> (u16, u16) {
     let answer = state.step(&mut vec![0; STORE], &mut [0; SHEET], &request);
     assert_eq!(answer.result, 0);
     (answer.ticket, answer.recipient)
