@@ -181,10 +181,22 @@ module _ {count : ℕ} {ends : List ℕ} where
           ∙ sym (next-run es q some (so-far .within) (so-far .past) (so-far .reached) low begun is);
     }
 
-    pub sought-end : 1 ≤ count → 256 ≤ s → {best : Run} → best ≡ betterOf found start 256 count
+    -- at none of the sheets that are left an entry begins
+    pub sought-end : ((k : ℕ) → s ≤ k → getD ends k 0 ≡ 0) → 1 ≤ count → {best : Run} → best ≡ betterOf found start 256 count
         → (es : List Entry) → ends ≡ noteEnds es noEnds → best .first ≡ bestFit es count
-    sought-end some high better es q =
+    sought-end rest some better es q =
         ap (λ (r : Run). r .first)
         (better ∙ ap (λ (r : Run). betterOf r start 256 count) (so-far .smallest es q)
-        ∙ sym (last-run es q some (so-far .within) (so-far .past) (so-far .reached) (omega (arith, so-far .within))))
+        ∙ sym (last-run es q some (omega arith) past (reached (so-far .reached)) refl))
         ∙ sym (best-is es count)
+      where
+        past : (k : ℕ) → k < 256 → getD ends k 0 ≤ start
+        past k b = go (case (ltb k s))
+          where
+            go : Case (ltb k s) → getD ends k 0 ≤ start
+            go (pass l) = so-far .past k (ltb-true k s l)
+            go (fail l) = omega (arith, rest k (ltb-false k s l))
+
+        reached : Reached ends start s → Reached ends start 256
+        reached (none e) = none e
+        reached (one k b e) = one k (omega (arith, so-far .within)) e

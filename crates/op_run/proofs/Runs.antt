@@ -3,7 +3,7 @@
 use Prim.Native.Nat.{ℕ, zero, suc, _+_, _-_, _≤_, _<_}
 use native.Mathlib.Omega.{arith}
 use native.Mathlib.Numerals.{add-one}
-use mathlib.Core.Path.{_≡_, sym, ap, _∙_, subst}
+use mathlib.Core.Path.{_≡_, refl, sym, ap, _∙_, subst}
 use mathlib.Core.Logic.{_⊎_, inl, inr}
 use mathlib.Core.Bool.{true, false, not, _&&_, _||_, cond}
 use mathlib.Core.List.{List, [], _∷_}
@@ -19,7 +19,7 @@ use Rattle.tables.specs.declared.Entry.{Entry}
 use Rattle.tables.specs.Names.{noEntry}
 use Rattle.tables.specs.Sheets.{apart, outside, isFreeRun}
 use Rattle.tables.proofs.ByPlace.{at}
-use Rattle.op_run.specs.Ends.{further, noteEnd, noteEnds}
+use Rattle.op_run.specs.Ends.{further, noteEnd, noteEnds, beginsBelow, beginBelow, NotesEnd, NotesEnds}
 
 abbrev end : Entry → ℕ
 end e = e .first + e .count
@@ -50,6 +50,14 @@ module _ (a b : ℕ) where
       go (pass e) = rw e (omega arith)
       go (fail e) = rw e (ltb-false a b e)
 
+  further-most : (c : ℕ) → a ≤ c → b ≤ c → further a b ≤ c
+  unfolding further
+  further-most c p q = go (case (ltb a b))
+    where
+      go : Case (ltb a b) → cond (ltb a b) b a ≤ c
+      go (pass e) = rw e q
+      go (fail e) = rw e p
+
   pub further-from : (c : ℕ) → c < further a b → (c < a) ⊎ (c < b)
   unfolding further
   further-from c h = go (case (ltb a b))
@@ -66,15 +74,15 @@ reach-more ends {reach} {s} {next} before is =
 
 -- ---- one entry noted
 module _ (e : Entry) (l : List ℕ) where
-  pub noted : e .live ≡ true → e .first < 256 → noteEnd e l ≡ set l (e .first) (further (getD l (e .first) 0) (end e))
+  noted : e .live ≡ true → e .first < 256 → noteEnd e l ≡ set l (e .first) (further (getD l (e .first) 0) (end e))
   unfolding noteEnd
   noted v b = rw (lt-ltb (e .first) 256 b, v)
 
-  pub noted-dead : e .live ≡ false → l ≡ noteEnd e l
+  noted-dead : e .live ≡ false → l ≡ noteEnd e l
   unfolding noteEnd
   noted-dead v = rw v
 
-  pub noted-high : e .live ≡ true → 256 ≤ e .first → l ≡ noteEnd e l
+  noted-high : e .live ≡ true → 256 ≤ e .first → l ≡ noteEnd e l
   unfolding noteEnd
   noted-high v b = rw (le-ltb (e .first) 256 b, v)
 
@@ -109,7 +117,7 @@ module _ (e : Entry) (l : List ℕ) where
     -- what stands at k is what stood there, or the entry's end
     data Stands (k : ℕ) : Type 0 where
       old : getD (noteEnd e l) k 0 ≡ getD l k 0 → Stands k
-      new : e .live ≡ true → e .first ≡ k → getD (noteEnd e l) k 0 ≡ further (getD l k 0) (end e) → Stands k
+      new : e .live ≡ true → e .first < 256 → e .first ≡ k → getD (noteEnd e l) k 0 ≡ further (getD l k 0) (end e) → Stands k
 
     stands : (k : ℕ) → Stands k
     stands k = go how (case (eqb k (e .first)))
@@ -122,25 +130,67 @@ module _ (e : Entry) (l : List ℕ) where
             ∙ getD-set-other l (e .first) k (further (getD l (e .first) 0) (end e)) 0 (eqb-false k (e .first) ne))
         go (here v b q) (pass z) =
             let w : e .first ≡ k = sym (eqb-true k (e .first) z) in
-            new v w (subst (λ (j : ℕ). getD (noteEnd e l) j 0 ≡ further (getD l j 0) (end e)) w (one-here v b))
+            new v b w (subst (λ (j : ℕ). getD (noteEnd e l) j 0 ≡ further (getD l j 0) (end e)) w (one-here v b))
 
     one-keeps : (k : ℕ) → getD l k 0 ≤ getD (noteEnd e l) k 0
     one-keeps k = go (stands k)
       where
         go : Stands k → getD l k 0 ≤ getD (noteEnd e l) k 0
         go (old q) = omega (arith, q)
-        go (new v w q) = rw q (further-left (getD l k 0) (end e))
+        go (new v b w q) = rw q (further-left (getD l k 0) (end e))
 
     one-from : (k a : ℕ) → a < getD (noteEnd e l) k 0 → (a < getD l k 0) ⊎ ((e .live ≡ true) × (e .first ≡ k) × (a < end e))
     one-from k a h = go (stands k)
       where
         go : Stands k → (a < getD l k 0) ⊎ ((e .live ≡ true) × (e .first ≡ k) × (a < end e))
         go (old q) = inl (rw q at h)
-        go (new v w q) = pick (further-from (getD l k 0) (end e) a (rw q at h))
+        go (new v b w q) = pick (further-from (getD l k 0) (end e) a (rw q at h))
           where
             pick : (a < getD l k 0) ⊎ (a < end e) → (a < getD l k 0) ⊎ ((e .live ≡ true) × (e .first ≡ k) × (a < end e))
             pick (inl c) = inl c
             pick (inr c) = inr (v, w, c)
+
+-- ---- the bound below which an entry begins
+module _ (e : Entry) (bound : ℕ) where
+  bound-dead : e .live ≡ false → bound ≡ beginsBelow e bound
+  unfolding beginsBelow
+  bound-dead v = rw v
+
+  bound-high : e .live ≡ true → 256 ≤ e .first → bound ≡ beginsBelow e bound
+  unfolding beginsBelow
+  bound-high v b = rw (le-ltb (e .first) 256 b, v)
+
+  bound-noted : e .live ≡ true → e .first < 256 → beginsBelow e bound ≡ further bound (e .first + 1)
+  unfolding beginsBelow
+  bound-noted v b = rw (lt-ltb (e .first) 256 b, v)
+
+  bound-kept : bound ≤ beginsBelow e bound
+  unfolding beginsBelow
+  bound-kept = go (case (e .live && ltb (e .first) 256))
+    where
+      go : Case (e .live && ltb (e .first) 256) → bound ≤ cond (e .live && ltb (e .first) 256) (further bound (e .first + 1)) bound
+      go (pass q) = rw q (further-left bound (e .first + 1))
+      go (fail q) = rw q (omega arith)
+
+  bound-most : bound ≤ 256 → beginsBelow e bound ≤ 256
+  unfolding beginsBelow
+  bound-most most = go (case (e .live && ltb (e .first) 256))
+    where
+      go : Case (e .live && ltb (e .first) 256) → cond (e .live && ltb (e .first) 256) (further bound (e .first + 1)) bound ≤ 256
+      go (pass q) = rw q (further-most bound (e .first + 1) 256 most (omega (arith, ltb-true (e .first) 256 (and-r (e .live) _ q))))
+      go (fail q) = rw q most
+
+-- ---- what the code notes of an entry
+module _ (e : Entry) {l : List ℕ} {bound : ℕ} where
+  pub notes-dead : e .live ≡ false → NotesEnd e l l bound bound
+  notes-dead v = record { ends = noted-dead e l v; bound = bound-dead e bound v }
+
+  pub notes-high : e .live ≡ true → 256 ≤ e .first → NotesEnd e l l bound bound
+  notes-high v b = record { ends = noted-high e l v b; bound = bound-high e bound v b }
+
+  pub notes : e .live ≡ true → e .first < 256 → {far : ℕ} → far ≡ further (getD l (e .first) 0) (end e) → {next : ℕ} → next ≡ further bound (e .first + 1)
+      → NotesEnd e l (set l (e .first) far) bound next
+  notes v b f n = record { ends = ap (set l (e .first)) f ∙ sym (noted e l v b); bound = n ∙ sym (bound-noted e bound v b) }
 
 -- ---- all entries noted
 -- an entry that begins at k and ends past a
@@ -176,18 +226,62 @@ all-from (e ∷ es) l n k a h = go (all-from es (noteEnd e l) (one-long e l ∙ 
         pick (inl c) = inl c
         pick (inr c) = inr (record { place = 0; low = omega arith; live = c .0; first = c .1; past = c .2 })
 
+begin-kept : (es : List Entry) (bound : ℕ) → bound ≤ beginBelow es bound
+unfolding beginBelow
+begin-kept [] bound = omega arith
+begin-kept (e ∷ es) bound = omega (arith, bound-kept e bound, begin-kept es (beginsBelow e bound))
+
+begin-most : (es : List Entry) (bound : ℕ) → bound ≤ 256 → beginBelow es bound ≤ 256
+unfolding beginBelow
+begin-most [] bound most = most
+begin-most (e ∷ es) bound most = begin-most es (beginsBelow e bound) (bound-most e bound most)
+
+-- from the bound on nothing is noted
+untouched : (es : List Entry) (l : List ℕ) → length l ≡ 256 → (bound k : ℕ) → beginBelow es bound ≤ k → getD (noteEnds es l) k 0 ≡ getD l k 0
+unfolding noteEnds beginBelow
+untouched [] l n bound k h = refl
+untouched (e ∷ es) l n bound k h = untouched es (noteEnd e l) (one-long e l ∙ n) (beginsBelow e bound) k h ∙ go (stands e l n k)
+  where
+    go : Stands e l n k → getD (noteEnd e l) k 0 ≡ getD l k 0
+    go (old q) = q
+    go (new v b w q) =
+        absurd (omega (arith, w, h, begin-kept es (beginsBelow e bound), bound-noted e bound v b, further-right bound (e .first + 1)))
+
 -- the loop that notes them: from place i on, what is left to note
-module _ (es : List Entry) (i : ℕ) (now : List ℕ) {all-noted : List ℕ} (so-far : noteEnds (drop i es) now ≡ all-noted) where
-  noting-from : i < length es → noteEnds (drop i es) now ≡ noteEnds (drop (i + 1) es) (noteEnd (at es i) now)
-  unfolding noteEnds
-  noting-from b = rw (add-one, drop-cons es i noEntry)
+pub record Noting (es : List Entry) (before now : List ℕ) (below i : ℕ) : Type 0 where
+  pub within : i ≤ 256
+  pub ends : noteEnds (drop i es) now ≡ noteEnds es before
+  pub bound : beginBelow (drop i es) below ≡ beginBelow es 0
 
-  pub noting-more : i < length es → {after : List ℕ} → after ≡ noteEnd (at es i) now → noteEnds (drop (i + 1) es) after ≡ all-noted
-  noting-more b q = ap (noteEnds (drop (i + 1) es)) q ∙ sym (noting-from b) ∙ so-far
+module _ (es : List Entry) (long : length es ≡ 256) {before : List ℕ} where
+  pub noting-none : Noting es before before 0 0
+  noting-none = record { within = omega arith; ends = refl; bound = refl }
 
-  pub noting-end : length es ≤ i → now ≡ all-noted
-  unfolding noteEnds
-  noting-end b = ap (λ (m : List Entry). noteEnds m now) (sym (drop-of-length-le es b)) ∙ so-far
+  module _ {now : List ℕ} {bound i : ℕ} (so-far : Noting es before now bound i) where
+    pub noting-more : i < 256 → {e : Entry} → e ≡ at es i → {after : List ℕ} {next : ℕ} → NotesEnd e now after bound next → Noting es before after next (i + 1)
+    unfolding noteEnds beginBelow
+    noting-more low {e} is {after} {next} one = record {
+      within = omega arith;
+      ends =
+          ap (noteEnds (drop (i + 1) es)) (one .ends ∙ ap (λ (x : Entry). noteEnd x now) is)
+          ∙ sym (ap (λ (l : List Entry). noteEnds l now) here) ∙ so-far .ends;
+      bound =
+          ap (beginBelow (drop (i + 1) es)) (one .bound ∙ ap (λ (x : Entry). beginsBelow x bound) is)
+          ∙ sym (ap (λ (l : List Entry). beginBelow l bound) here) ∙ so-far .bound;
+    }
+      where
+        here : drop i es ≡ at es i ∷ drop (i + 1) es
+        here = let b : i < length es = omega (arith, long) in rw (add-one, drop-cons es i noEntry b)
+
+    pub noting-end : 256 ≤ i → NotesEnds es before now bound
+    unfolding noteEnds beginBelow
+    noting-end high = record {
+      ends = sym (ap (λ (l : List Entry). noteEnds l now) none) ∙ so-far .ends;
+      bound = sym (ap (λ (l : List Entry). beginBelow l bound) none) ∙ so-far .bound;
+    }
+      where
+        none : drop i es ≡ []
+        none = let b : length es ≤ i = omega (arith, long) in drop-of-length-le es b
 
 -- ---- no end noted yet
 abbrev pub noEnds : List ℕ
@@ -241,6 +335,13 @@ module _ (es : List Entry) (count a : ℕ) where
   run-high : 256 < a + count → isFreeRun es count a ≡ false
   unfolding isFreeRun
   run-high h = rw (lt-leb (a + count) 256 h)
+
+pub bound-low : (es : List Entry) {before ends : List ℕ} {bound : ℕ} → NotesEnds es before ends bound → bound ≤ 256
+bound-low es noted-all = omega (arith, noted-all .bound, begin-most es 0 (omega arith))
+
+pub none-behind-bound : (es : List Entry) {ends : List ℕ} {bound : ℕ} → NotesEnds es noEnds ends bound → (k : ℕ) → bound ≤ k → getD ends k 0 ≡ 0
+none-behind-bound es noted-all k h =
+    ap (λ (l : List ℕ). getD l k 0) (noted-all .ends) ∙ untouched es noEnds no-ends-long 0 k (omega (arith, noted-all .bound)) ∙ no-ends k
 
 -- ---- all ends noted
 -- an end stands at a sheet that it is not below

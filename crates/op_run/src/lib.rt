@@ -6,7 +6,7 @@ ghost use Rattle.tables.specs.Sheets.{sheetsFree};
 ghost use Rattle.best_fit.specs.BestFit.{bestFit};
 ghost use Rattle.image.specs.Layout.{imageSize};
 ghost use Rattle.image_read.specs.Places.{entriesIn};
-ghost use Rattle.op_run.specs.Ends.{further, noteEnd, noteEnds};
+ghost use Rattle.op_run.specs.Ends.{further, NotesEnd, NotesEnds};
 ghost use Rattle.op_run.specs.Better.{betterOf};
 use best_fit::Run;
 use tables::Entry;
@@ -20,32 +20,37 @@ fn furthest(a: u32, b: u32) -> u32
     a
 }
 
-// Where the entry ends is kept at the sheet where it begins, unless another that begins there ends further.
-fn note_end(ends: &mut [u32; 256], e: Entry)
-    ensures { λ r. ⌜ now (ends .exit) ≡ noteEnd e (now (ends .entry)) ⌝ }
+// Where the entry ends is kept at the sheet where it begins, unless another that begins there ends further. It begins below the bound that is
+// handed back.
+fn note_end(ends: &mut [u32; 256], e: Entry, bound: u32) -> u32
+    ensures { λ r. ⌜ NotesEnd e (now (ends .entry)) (now (ends .exit)) bound r ⌝ }
 {
     if !e.live {
-        return;
+        return bound;
     }
     let first = e.first as usize;
     if 256 <= first {
-        return;
+        return bound;
     }
     let end = e.first as u32 + e.count as u32;
     let old = ends[first];
     ends[first] = furthest(old, end);
+    furthest(bound, first as u32 + 1)
 }
 
-fn note_ends(ends: &mut [u32; 256], image: &[u8])
+// Of all entries; the bound below which they begin.
+fn note_ends(ends: &mut [u32; 256], image: &[u8]) -> u32
     requires { ⌜ length (now image) ≡ imageSize ⌝ }
-    ensures { λ r. ⌜ now (ends .exit) ≡ noteEnds (entriesIn (now (image .entry))) (now (ends .entry)) ⌝ }
+    ensures { λ r. ⌜ NotesEnds (entriesIn (now (image .entry))) (now (ends .entry)) (now (ends .exit)) r ⌝ }
 {
+    let mut bound: u32 = 0;
     let mut i: usize = 0;
     while i < 256 {
         let e = image_read::entry_at(image, i);
         i = i + 1;
-        note_end(ends, e);
+        bound = note_end(ends, e, bound);
     }
+    bound
 }
 
 // The run that is found, or the one from start up to end where that suits better: it is long enough, and smaller.
@@ -68,21 +73,21 @@ fn better(found: Run, start: u32, end: u32, count: u32) -> Run
     }
 }
 
-// The sheet from which on a take of `count` sheets lies, or 256. One pass over the entries, one over the sheets: `start` is where the furthest
-// of the entries that begin below s ends, and where an entry begins, the free run from there on ends.
+// The sheet from which on a take of `count` sheets lies, or 256. One pass over the entries, one over the sheets at which they begin: `start` is
+// where the furthest of those that begin below s ends, and where the next one begins, the free run from there on ends.
 pub fn best_fit(image: &[u8], count: usize) -> usize
     requires { ⌜ (length (now image) ≡ imageSize) × (1 ≤ count) × (count ≤ 256) ⌝ }
     ensures { λ r. ⌜ r ≡ bestFit (entriesIn (now (image .entry))) count ⌝ }
 {
     let mut ends = [0u32; 256];
-    note_ends(&mut ends, image);
+    let bound = note_ends(&mut ends, image) as usize;
     let mut found = Run {
         first: 256,
         count: 257,
     };
     let mut start: u32 = 0;
     let mut s: usize = 0;
-    while s < 256 {
+    while s < bound {
         let end = ends[s];
         let sheet = s as u32;
         s = s + 1;

@@ -55,7 +55,7 @@ loop-again-2 c =
 returns : tie.Need-returns Inv-loop μ-loop
 returns c =
     let s = c .before .before .before .before .before in
-    counted-all (c .before .loop .inv) (c .loop-test .left) (entriesIn (s .args .image .now)) (c .before .before .note-ends .ensures)
+    counted-all (c .before .loop .inv) (c .loop-test .left) (entriesIn (s .args .image .now)) (c .before .before .note-ends .ensures .ends)
 
 pub free-sheets-spec : {M : Type 1} → statement M
 free-sheets-spec =

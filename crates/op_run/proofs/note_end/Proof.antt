@@ -1,24 +1,18 @@
 -- By the tests that lead to each return.
-use mathlib.Core.Path.{sym, ap, _∙_}
-use lib.ListN.{set}
 use borrow.Author.Needs.{needs}
 use borrow.Author.Tests.{not-true, not-false}
-use Rattle.op_run.proofs.Runs.{noted, noted-dead, noted-high}
+use Rattle.op_run.proofs.Runs.{notes-dead, notes-high, notes}
 use Rattle.op_run.proofs.note_end.Statement.{statement}
 use Rattle.op_run.proofs.note_end.Tie as tie
 
 returns : tie.Need-returns
-returns c =
-    let a = c .before .before .args in
-    noted-dead (a .e) (a .ends .now) (not-true (a .e .live) (c .if1 .taken))
+returns c = notes-dead (c .before .before .args .e) (not-true (c .before .before .args .e .live) (c .if1 .taken))
 
 cast-first : tie.Need-cast-first
 cast-first c = search needs
 
 returns-2 : tie.Need-returns-2
-returns-2 c =
-    let a = c .before .before .before .before .args in
-    noted-high (a .e) (a .ends .now) (not-false (a .e .live) (c .before .before .if1 .left)) (c .if2 .taken)
+returns-2 c = notes-high (c .before .before .before .before .args .e) (not-false (c .before .before .before .before .args .e .live) (c .before .before .if1 .left)) (c .if2 .taken)
 
 cast-end : tie.Need-cast-end
 cast-end c = search needs
@@ -44,14 +38,17 @@ mul-ends c = search needs
 element-write-ends : tie.Need-element-write-ends
 element-write-ends c = search needs
 
+cast-furthest : tie.Need-cast-furthest
+cast-furthest c = search needs
+
+add-furthest : tie.Need-add-furthest
+add-furthest c = search needs
+
+furthest-requires-2 : tie.Need-furthest-requires-2
+furthest-requires-2 c κs = search needs
+
 returns-3 : tie.Need-returns-3
-returns-3 c =
-    let c4 = c .before .before .before .before in
-    let c6 = c4 .before .before in
-    let c8 = c6 .before .before in
-    let a = c8 .args in
-    let live = not-false (a .e .live) (c6 .if1 .left) in
-    ap (set (a .ends .now) (a .e .first)) (c .furthest .ensures) ∙ sym (noted (a .e) (a .ends .now) live (c4 .if2 .left))
+returns-3 c = notes (c .before .before .before .before .before .before .before .before .before .args .e) (not-false (c .before .before .before .before .before .before .before .before .before .args .e .live) (c .before .before .before .before .before .before .before .if1 .left)) (c .before .before .before .before .before .if2 .left) (c .before .furthest .ensures) (c .furthest2 .ensures)
 
 pub note-end-spec : {M : Type 1} → statement M
 note-end-spec =
@@ -68,4 +65,7 @@ note-end-spec =
     furthest-requires
     mul-ends
     element-write-ends
+    cast-furthest
+    add-furthest
+    furthest-requires-2
     returns-3)
