@@ -6,7 +6,7 @@ use Rattle.lists.specs.Lists.{all, keep, least}
 use Rattle.rights.specs.Rules.{rightsOf}
 use Rattle.tables.specs.declared.Entry.{Entry}
 use Rattle.tables.specs.Names.{nameOf, noName, noEntry, entryFor}
-use Rattle.tables.specs.Sheets.{apart, outside, isFreeRun, lowestRun, hasRun}
+use Rattle.tables.specs.Sheets.{apart, outside, isFreeRun}
 use Rattle.best_fit.specs.BestFit.{runAt, smallestBelow, bestFit}
 
 -- an entry of so many sheets

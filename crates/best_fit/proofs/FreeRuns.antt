@@ -2,14 +2,13 @@
 use Prim.Native.Nat.{ℕ, zero, suc, _+_, _-_, _≤_, _<_}
 use native.Mathlib.Omega.{arith}
 use mathlib.Core.Path.{_≡_, refl, sym, ap, subst, _∙_}
-use mathlib.Core.Logic.{_⊎_, inl, inr}
-use mathlib.Core.Bool.{Bool, true, false, not, _&&_, _||_, cond}
+use mathlib.Core.Bool.{Bool, true, false, not, _||_, cond}
 use mathlib.Core.List.{List}
 use lib.Dec.{leb, ltb, eqb}
 use lib.ListN.{getD}
 use borrow.Author.Tests.{leb-true, le-leb, lt-leb, ltb-true, ltb-false, ne-eqb, not-true, not-false}
 use Rattle.lists.specs.Lists.{all, least}
-use Rattle.lists.proofs.Tests.{Case, pass, fail, case, no-true, contradiction, cannot-pass, and-l, and-r, and-intro, or-left, or-right, or-false-r, not-test}
+use Rattle.lists.proofs.Tests.{Case, pass, fail, case, contradiction, cannot-pass, and-l, and-r, and-intro, or-left, or-right, not-test}
 use Rattle.lists.proofs.Everywhere.{all-intro, all-elim}
 use Rattle.lists.proofs.Search.{least-passes, least-below, least-most, least-is}
 use Rattle.tables.specs.declared.Entry.{Entry}

@@ -5,7 +5,7 @@ use mathlib.Core.Path.{_≡_, refl, sym, ap, subst, _∙_, fun-ext}
 use mathlib.Core.Bool.{Bool, true, false, not, _&&_, _||_, cond}
 use mathlib.Core.List.{List, [], _∷_}
 use lib.Dec.{leb, ltb, eqb}
-use borrow.Author.Tests.{lt-ltb, le-ltb, ltb-true, ltb-false}
+use borrow.Author.Tests.{lt-ltb, ltb-true, ltb-false}
 use Rattle.lists.specs.Lists.{all, keep, least}
 use Rattle.lists.proofs.Tests.{Case, pass, fail, case, contradiction, cannot-pass, cannot-fail, or-right, not-test, both-ways}
 use Rattle.lists.proofs.Search.{least-passes, least-below}
@@ -13,7 +13,7 @@ use Rattle.tables.specs.declared.Entry.{Entry}
 use Rattle.tables.specs.Sheets.{outside, isFreeRun, lowestRun, hasRun}
 use Rattle.best_fit.specs.declared.Run.{Run}
 use Rattle.best_fit.specs.BestFit.{runAt, smallestBelow, bestFit}
-use Rattle.best_fit.specs.Claims.{FreeRun, BestFit, Used, SmallestHoleFirst, OneBestFit, SameCircumstances}
+use Rattle.best_fit.specs.Claims.{FreeRun, SmallestHoleFirst, OneBestFit, SameCircumstances}
 use Rattle.best_fit.proofs.FreeRuns.{run-free, free-fits, free-outside, free-part, free-joined, run-long, run-low, run-found, run-whole}
 use Rattle.best_fit.proofs.Smallest.{Found, Sought, found, nowhere, sought}
 

@@ -1,4 +1,4 @@
+pub mod Edges
 pub mod FreeRuns
 pub mod Smallest
 pub mod Laws
-pub mod Edges

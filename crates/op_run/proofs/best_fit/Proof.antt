@@ -60,7 +60,9 @@ loop-less-2 : tie.Need-loop-less-2 Inv-loop μ-loop
 loop-less-2 c = search needs
 
 loop-again-2 : tie.Need-loop-again-2 Inv-loop μ-loop
-loop-again-2 c = (c .before .before .loop .inv .0, sought-on (c .before .before .loop .inv .1) (omega (arith, c .before .before .loop .inv .0, c .before .loop-test .taken)) (c .if1 .left))
+loop-again-2 c =
+    let l = c .before .before .loop in
+    (l .inv .0, sought-on (l .inv .1) (omega (arith, l .inv .0, c .before .loop-test .taken)) (c .if1 .left))
 
 cast-better-2 : tie.Need-cast-better-2 Inv-loop μ-loop
 cast-better-2 c = search needs

@@ -6,13 +6,16 @@ use Rattle.op_run.proofs.note_end.Statement.{statement}
 use Rattle.op_run.proofs.note_end.Tie as tie
 
 returns : tie.Need-returns
-returns c = notes-dead (c .before .before .args .e) (not-true (c .before .before .args .e .live) (c .if1 .taken))
+returns c = let e = c .before .before .args .e in notes-dead e (not-true (e .live) (c .if1 .taken))
 
 cast-first : tie.Need-cast-first
 cast-first c = search needs
 
 returns-2 : tie.Need-returns-2
-returns-2 c = notes-high (c .before .before .before .before .args .e) (not-false (c .before .before .before .before .args .e .live) (c .before .before .if1 .left)) (c .if2 .taken)
+returns-2 c =
+    let c4 = c .before .before .before .before in
+    let e = c4 .args .e in
+    notes-high e (not-false (e .live) (c .before .before .if1 .left)) (c .if2 .taken)
 
 cast-end : tie.Need-cast-end
 cast-end c = search needs
@@ -48,7 +51,10 @@ furthest-requires-2 : tie.Need-furthest-requires-2
 furthest-requires-2 c κs = search needs
 
 returns-3 : tie.Need-returns-3
-returns-3 c = notes (c .before .before .before .before .before .before .before .before .before .args .e) (not-false (c .before .before .before .before .before .before .before .before .before .args .e .live) (c .before .before .before .before .before .before .before .if1 .left)) (c .before .before .before .before .before .if2 .left) (c .before .furthest .ensures) (c .furthest2 .ensures)
+returns-3 c =
+    let c5 = c .before .before .before .before .before in
+    let e = c5 .before .before .before .before .args .e in
+    notes e (not-false (e .live) (c5 .before .before .if1 .left)) (c5 .if2 .left) (c .before .furthest .ensures) (c .furthest2 .ensures)
 
 pub note-end-spec : {M : Type 1} → statement M
 note-end-spec =

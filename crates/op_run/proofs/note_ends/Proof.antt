@@ -14,7 +14,7 @@ abbrev μ-loop : tie.MeasureT-loop
 μ-loop ends₀ image bound₀ i₀ ends bound i = 256 - i
 
 loop-holds : tie.Need-loop-holds Inv-loop μ-loop
-loop-holds c = noting-none (entriesIn (c .before .args .image .now)) (entries-long (c .before .args .image .now))
+loop-holds c = let bytes = c .before .args .image .now in noting-none (entriesIn bytes) (entries-long bytes)
 
 entry-at-requires : tie.Need-entry-at-requires Inv-loop μ-loop
 entry-at-requires c κs = search needs
@@ -29,10 +29,16 @@ loop-less : tie.Need-loop-less Inv-loop μ-loop
 loop-less c = search needs
 
 loop-again : tie.Need-loop-again Inv-loop μ-loop
-loop-again c = noting-more (entriesIn (c .before .before .before .before .before .before .args .image .now)) (entries-long (c .before .before .before .before .before .before .args .image .now)) (c .before .before .before .before .loop .inv) (c .before .before .before .loop-test .taken) (c .before .before .entry-at .ensures) (c .note-end .ensures)
+loop-again c =
+    let c4 = c .before .before .before .before in
+    let bytes = c4 .before .before .args .image .now in
+    noting-more (entriesIn bytes) (entries-long bytes) (c4 .loop .inv) (c .before .before .before .loop-test .taken) (c .before .before .entry-at .ensures)
+    (c .note-end .ensures)
 
 returns : tie.Need-returns Inv-loop μ-loop
-returns c = noting-end (entriesIn (c .before .before .before .args .image .now)) (entries-long (c .before .before .before .args .image .now)) (c .before .loop .inv) (c .loop-test .left)
+returns c =
+    let bytes = c .before .before .before .args .image .now in
+    noting-end (entriesIn bytes) (entries-long bytes) (c .before .loop .inv) (c .loop-test .left)
 
 pub note-ends-spec : {M : Type 1} → statement M
 note-ends-spec =
