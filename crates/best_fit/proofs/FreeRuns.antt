@@ -16,7 +16,7 @@ use Rattle.tables.specs.Names.{noEntry}
 use Rattle.tables.specs.Sheets.{apart, outside, isFreeRun}
 use Rattle.best_fit.specs.declared.Run.{Run}
 use Rattle.best_fit.specs.BestFit.{runAt}
-use Rattle.best_fit.specs.Claims.{FreeRun}
+use Rattle.best_fit.specs.Claims.{Hole}
 
 -- ---- over any test of runs
 module _ (free : ℕ → ℕ → Bool) where
@@ -157,7 +157,7 @@ module _ (entries : List Entry) where
           (least-passes (ends (isFreeRun entries) first) 256 0 (omega (arith, begun, l, fits))))
 
   -- ---- the free runs are what `runAt` says
-  module _ (run : Run) (whole : FreeRun entries run) where
+  module _ (run : Run) (whole : Hole entries run) where
     not-longer : (first : ℕ) → first ≤ run .first → run .first + run .count ≤ first + suc (run .count) → isFreeRun entries (suc (run .count)) first ≡ false
     not-longer first a b =
         cannot-pass (isFreeRun entries (suc (run .count)) first)
@@ -210,5 +210,5 @@ module _ (entries : List Entry) where
         go (fail c) (pass d) = absurd (no-more (ltb-false (other .first) first c) (ltb-true (runAt (isFreeRun entries) first) (other .count) d))
         go (fail c) (fail d) = ltb-false (runAt (isFreeRun entries) first) (other .count) d
 
-    pub run-whole : FreeRun entries (record { first = first; count = runAt (isFreeRun entries) first })
+    pub run-whole : Hole entries (record { first = first; count = runAt (isFreeRun entries) first })
     run-whole = record { some = some; free = free-here; longest = longest-here }

@@ -13,7 +13,7 @@ use Rattle.tables.specs.declared.Entry.{Entry}
 use Rattle.tables.specs.Sheets.{outside, isFreeRun, lowestRun, hasRun}
 use Rattle.best_fit.specs.declared.Run.{Run}
 use Rattle.best_fit.specs.BestFit.{runAt, smallestBelow, bestFit}
-use Rattle.best_fit.specs.Claims.{FreeRun, SmallestHoleFirst, OneBestFit, SameCircumstances}
+use Rattle.best_fit.specs.Claims.{Hole, SmallestHoleFirst, OneBestFit, SameCircumstances}
 use Rattle.best_fit.proofs.FreeRuns.{run-free, free-fits, free-outside, free-part, free-joined, run-long, run-low, run-found, run-whole}
 use Rattle.best_fit.proofs.Smallest.{Found, Sought, found, nowhere, sought}
 
@@ -137,7 +137,7 @@ smallest-hole-first entries count one has = record {
   run = run;
   best = record {
     is =
-        subst (FreeRun entries) (ap (λ (c : ℕ). record { first = run .first; count = c }) (f .is))
+        subst (Hole entries) (ap (λ (c : ℕ). record { first = run .first; count = c }) (f .is))
         (run-whole entries (run .first) (omega (arith, f .is, f .enough)));
     enough = f .enough;
     smallest = λ other is long.

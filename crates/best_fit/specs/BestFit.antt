@@ -11,7 +11,7 @@ use Rattle.best_fit.specs.declared.Run.{Run}
 
 -- by a test of runs, `free count first`: the count sheets from first on are free
 module _ (free : ℕ → ℕ → Bool) where
-  -- how many sheets the free run has that begins at the sheet: 0 where it can be made longer downwards, else as many as it can be made to have
+  -- how many sheets the free run has that begins at the sheet: as many as are free from there on; none, where it could begin a sheet lower
   unfoldable pub runAt : ℕ → ℕ
   runAt first =
       let sheets = least (λ more. not (free (suc more) first)) 256 0 in

@@ -1,5 +1,5 @@
--- What is claimed of the sheets that a take uses: they begin the run that document 02, 5/13 says, and there is one exactly where a take was
--- not refused with 11 before.
+-- What is claimed of the sheets that a take uses: they begin the hole that document 02, 5/13 says, and there is one exactly where 11 is not
+-- given.
 use Prim.Native.Nat.{ℕ, _+_, _≤_}
 use mathlib.Core.Path.{_≡_}
 use mathlib.Core.Bool.{true}
@@ -10,8 +10,8 @@ use Rattle.tables.specs.Sheets.{isFreeRun, hasRun}
 use Rattle.best_fit.specs.declared.Run.{Run}
 use Rattle.best_fit.specs.BestFit.{bestFit}
 
--- "A free run is one that can't be made longer": no run that holds it and lies outside all entries has more sheets
-pub record FreeRun (entries : List Entry) (run : Run) : Type 0 where
+-- a hole, "A free run is one that can't be made longer": no run that holds it and lies outside all entries has more sheets
+pub record Hole (entries : List Entry) (run : Run) : Type 0 where
   pub some : 1 ≤ run .count
   pub free : isFreeRun entries (run .count) (run .first) ≡ true
   pub longest : (other : Run) → other .first ≤ run .first → run .first + run .count ≤ other .first + other .count
@@ -19,10 +19,10 @@ pub record FreeRun (entries : List Entry) (run : Run) : Type 0 where
 
 -- "the smallest free run that is long enough, the lowest one among equals"
 pub record BestFit (entries : List Entry) (count : ℕ) (run : Run) : Type 0 where
-  pub is : FreeRun entries run
+  pub is : Hole entries run
   pub enough : count ≤ run .count
-  pub smallest : (other : Run) → FreeRun entries other → count ≤ other .count → run .count ≤ other .count
-  pub lowest : (other : Run) → FreeRun entries other → other .count ≡ run .count → run .first ≤ other .first
+  pub smallest : (other : Run) → Hole entries other → count ≤ other .count → run .count ≤ other .count
+  pub lowest : (other : Run) → Hole entries other → other .count ≡ run .count → run .first ≤ other .first
 
 -- "A take shall now use" it, "from its lowest sheet"
 pub record Used (entries : List Entry) (count : ℕ) : Type 0 where

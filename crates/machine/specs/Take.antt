@@ -28,7 +28,7 @@ takeTables t r =
     let rights = rightsOf (r .rights) in
     putEntry (give t (r .pad) (r .program) (headTicket Taken n first (r .count) rights)) (entryFor n noName first (r .count) rights)
 
--- "Otherwise the .. run is taken, its bytes set to 0"; which one: 02, 5/13
+-- "Otherwise the .. run is taken, its bytes set to 0"; 02, 5/13 says which
 unfoldable pub afterTake : State → Request → Outcome
 afterTake s r =
     accepted

@@ -1,4 +1,4 @@
--- Tables that are the same are the same after an accepted take: the new name and the lowest free run are the same on both sides, and so
+-- Tables that are the same are the same after an accepted take: the new name and the run taken are the same on both sides, and so
 -- are the new grant and its entry; nothing else changes on either.
 use Prim.Native.Nat.{ℕ, _<_}
 use mathlib.Core.Path.{_≡_, sym, ap, _∙_, subst}

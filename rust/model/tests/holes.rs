@@ -7,7 +7,7 @@ fn places(name: &str) -> Vec<[u16; 5]> {
     let path = format!("{}/../../crates/test_cases/data/{name}.in", env!("CARGO_MANIFEST_DIR"));
     let mut state = State::empty();
     trace(&mut state, &mut vec![0; STORE], &std::fs::read(path).expect("a stored trace"));
-    let report = state.report(SCRATCH, 6196).expect("tables in order");
+    let report = state.report(SCRATCH, usize::MAX).expect("tables in order");
     let numbers = |line: &str| -> Vec<u16> { line.split(' ').flat_map(str::parse).collect() };
     let lines = report.lines().map(numbers);
     lines.filter_map(|line| Some([*line.get(1)?, *line.get(2)?, *line.get(3)?, line[4], line[5]])).collect()
