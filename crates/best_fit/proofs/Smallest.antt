@@ -1,13 +1,12 @@
 -- The smallest of the free runs that begin below a sheet: what is found, and one sheet more.
 use Prim.Native.Nat.{ℕ, zero, suc, _+_, _≤_, _<_}
 use native.Mathlib.Omega.{arith}
-use native.Mathlib.Nat.{eq-or-lt-of-le}
-use mathlib.Core.Path.{_≡_, refl, sym, ap, subst, _∙_}
-use mathlib.Core.Logic.{_⊎_, inl, inr}
+use mathlib.Core.Path.{_≡_, refl, ap, _∙_}
 use mathlib.Core.Bool.{Bool, true, false, _&&_, cond}
 use lib.Dec.{leb, ltb}
 use borrow.Author.Tests.{leb-true, leb-false, lt-leb, ltb-true, ltb-false}
 use Rattle.lists.proofs.Tests.{Case, pass, fail, case}
+use Rattle.lists.proofs.Loops.{so-far}
 use Rattle.best_fit.specs.declared.Run.{Run}
 use Rattle.best_fit.specs.BestFit.{runAt, smallestBelow}
 use Rattle.best_fit.proofs.FreeRuns.{run-most}
@@ -57,11 +56,7 @@ module _ (free : ℕ → ℕ → Bool) (count : ℕ) where
 
   -- what holds of the sheets below n and of n
   upto : (P : ℕ → Type 0) (n : ℕ) → ((m : ℕ) → m < n → P m) → P n → (m : ℕ) → m < suc n → P m
-  upto P n below here m b = go (eq-or-lt-of-le (omega arith))
-    where
-      go : (m ≡ n) ⊎ (m < n) → P m
-      go (inl e) = subst P (sym e) here
-      go (inr l) = below m l
+  upto P n below here m b = so-far {P = P} n below here m (omega arith)
 
   module _ (n : ℕ) (lower : Run) where
     too-short : runAt free n < count → Sought n lower → Sought (suc n) lower

@@ -96,7 +96,7 @@ module _ (es : List Entry) {ends : List ℕ} (noted : ends ≡ noteEnds es noEnd
         ∙ ap (λ (n : ℕ). cond (leb count n && ltb n (smallestBelow free count start .count)) (record { first = start; count = n }) (smallestBelow free count start)) run-here
         ∙ rw (lt-ltb start s below)
 
-  -- an entry begins at s, and the furthest of those ends at end
+  -- an entry begins at s; next is the furthest end with it
   module _ (low : s < 256) {next : ℕ} (begun : getD ends s 0 ≡ 0 → ⊥) (is : next ≡ further start (getD ends s 0)) where
     taken : (m : ℕ) → s ≤ m → m < getD ends s 0 → runAt free m ≡ 0
     taken m a b = none-taken free m (run-behind es noted 1 m s (omega arith) b)

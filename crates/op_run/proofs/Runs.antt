@@ -336,6 +336,7 @@ module _ (es : List Entry) (count a : ℕ) where
   unfolding isFreeRun
   run-high h = rw (lt-leb (a + count) 256 h)
 
+-- ---- all ends noted
 pub bound-low : (es : List Entry) {before ends : List ℕ} {bound : ℕ} → NotesEnds es before ends bound → bound ≤ 256
 bound-low es noted-all = omega (arith, noted-all .bound, begin-most es 0 (omega arith))
 
@@ -343,7 +344,6 @@ pub none-behind-bound : (es : List Entry) {ends : List ℕ} {bound : ℕ} → No
 none-behind-bound es noted-all k h =
     ap (λ (l : List ℕ). getD l k 0) (noted-all .ends) ∙ untouched es noEnds no-ends-long 0 k (omega (arith, noted-all .bound)) ∙ no-ends k
 
--- ---- all ends noted
 -- an end stands at a sheet that it is not below
 pub end-behind : (es : List Entry) {ends : List ℕ} → ends ≡ noteEnds es noEnds → (k : ℕ) → k < 256 → (getD ends k 0 ≡ 0 → ⊥) → k ≤ getD ends k 0
 end-behind es {ends} noted-all k b ne =
@@ -356,7 +356,7 @@ end-behind es {ends} noted-all k b ne =
         let f = ap (λ (j : ℕ). getD (noteEnds es noEnds) j 0) (w .first) in
         omega (arith, u, f, w .first, ap (λ (l : List ℕ). getD l k 0) noted-all)
 
--- the run
+-- and a run
 module _ (es : List Entry) {ends : List ℕ} (noted-all : ends ≡ noteEnds es noEnds) (count a : ℕ) where
   -- an end noted within the run or before it, and past its beginning, is that of an entry that meets it
   pub run-behind : (s : ℕ) → s < a + count → a < getD ends s 0 → isFreeRun es count a ≡ false
