@@ -48,12 +48,12 @@ extern "C" {
 #define DOCK_ANSWER 3     /* numbers of an answer */
 #define DOCK_TRACE_INPUT 65536 /* bytes of the longest input of a trace */
 #define DOCK_TRACE_ROOM 983074 /* bytes that every trace fits into */
-#define DOCK_REPORT_SCRATCH 256 /* bytes of the scratch of a report: one for each ticket place */
-#define DOCK_REPORT_ROOM 6196   /* bytes that every report fits into */
-#define DOCK_SAVED_ROOM 18309   /* bytes that every saved text fits into */
+#define DOCK_REPORT_SCRATCH 32 /* bytes of the scratch of a report: one bit for each ticket place */
+#define DOCK_REPORT_ROOM 6196  /* bytes that every report fits into */
+#define DOCK_SAVED_ROOM 18309  /* bytes that every saved text fits into */
 
 /* The version that this header belongs to: major * 10000 + minor * 100 + patch. */
-#define DOCK_VERSION 40000
+#define DOCK_VERSION 50000
 
 /*
  * Bytes of stack that a call may take, its own frame included. dock_report has its own number, because

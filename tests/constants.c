@@ -952,10 +952,13 @@ static void tracing(void)
 
 #define COLUMNS "depth pad program ticket first count rights\n"
 
-/* Scratches of other lengths have this result, with an output of no bytes too; other tables come first. */
+/*
+ * Scratches of other lengths, 256 bytes among them as it had up to version 4, have this result, with an output of no bytes too; other
+ * tables come first.
+ */
 static void scratches(unsigned result)
 {
-    static const size_t lengths[] = {0, 1, DOCK_REPORT_SCRATCH - 1, DOCK_REPORT_SCRATCH + 1, 2 * DOCK_REPORT_SCRATCH};
+    static const size_t lengths[] = {0, 1, DOCK_REPORT_SCRATCH - 1, DOCK_REPORT_SCRATCH + 1, 255, 256, 257};
     size_t i;
 
     for (i = 0; i < sizeof lengths / sizeof *lengths; i++) {
@@ -1007,13 +1010,14 @@ static void many_grants(void)
 
 static void reporting(void)
 {
+    const size_t places = DOCK_PADS * DOCK_PROGRAMS * DOCK_PLACES;
     const char *lent = COLUMNS "0 0 0 1 0 4 7\n1 0 1 1 0 2 5\n2 1 0 1 1 1 1\n1 2 3 1 2 2 7\n2 0 0 4 3 1 2\n"
                                "0 1 0 2 4 2 2\n6 250\n";
     const char *recalled = COLUMNS "0 0 0 1 0 4 7\n1 0 1 1 0 2 5\n2 1 0 1 1 1 1\n0 1 0 2 4 2 2\n6 250\n";
 
     begin("report");
-    EQUAL(DOCK_REPORT_SCRATCH, DOCK_PADS * DOCK_PROGRAMS * DOCK_PLACES);
-    EQUAL(DOCK_REPORT_ROOM, strlen(COLUMNS "255 255\n") + DOCK_REPORT_SCRATCH * strlen("255 3 7 65535 255 256 7\n"));
+    EQUAL(8 * DOCK_REPORT_SCRATCH, places);
+    EQUAL(DOCK_REPORT_ROOM, strlen(COLUMNS "255 255\n") + places * strlen("255 3 7 65535 255 256 7\n"));
     start();
     is_report(__LINE__, COLUMNS "0 256\n");
     ACCEPTED(take(capture, 4, ALL), 1, 0);

@@ -1,12 +1,11 @@
 -- Laws of marks, for those who do not look into the bytes.
-use Prim.Native.Nat.{ℕ, zero, suc, _≤_, _<_}
+use Prim.Native.Nat.{ℕ, zero, suc, _/_, _%_, _^_, _≤_, _<_}
 use native.Mathlib.Omega.{arith}
+use native.Mathlib.Nat.{zero-div}
 use mathlib.Core.Path.{_≡_, refl, sym, ap, _∙_}
 use mathlib.Core.Bool.{Bool, true, false, not, _||_}
-use mathlib.Core.List.{List}
 use lib.Dec.{eqb}
-use lib.ListN.{length, getD, set, replicate}
-use lib.Seq.{getD-set-same, getD-set-other}
+use lib.ListN.{replicate}
 use borrow.Author.Tests.{eqb-true, eqb-false, eq-eqb}
 use Rattle.lists.proofs.Tests.{Case, pass, fail, case, cannot-pass}
 use Rattle.lists.proofs.Reading.{same-all}
@@ -64,26 +63,9 @@ module _ (place : ℕ) (marked : ℕ → Bool) (clear : marked place ≡ false) 
   unfolding unmarked
   one-less b = fewer-below 256 b
 
--- ---- in bytes
-pub mark-set : (marks : List ℕ) (place : ℕ) → place < length marks → markedIn (set marks place 1) ≡ withMark place (markedIn marks)
-unfolding markedIn withMark
-mark-set marks place b = λ i q. at q i
-  where
-    at : (q : ℕ) → not (eqb (getD (set marks place 1) q 0) 0) ≡ (eqb q place || not (eqb (getD marks q 0) 0))
-    at q = go (case (eqb q place))
-      where
-        go : Case (eqb q place) → not (eqb (getD (set marks place 1) q 0) 0) ≡ (eqb q place || not (eqb (getD marks q 0) 0))
-        go (pass e) =
-            let z : q ≡ place = eqb-true q place e in
-            let here : getD (set marks place 1) q 0 ≡ 1 = ap (λ (k : ℕ). getD (set marks place 1) k 0) z ∙ getD-set-same marks place 1 0 b in
-            rw (e, here) refl
-        go (fail e) =
-            let other : getD (set marks place 1) q 0 ≡ getD marks q 0 = getD-set-other marks place q 1 0 (eqb-false q place e) in
-            rw (e, other) refl
-
 pub none-marked : (n q : ℕ) → markedIn (replicate n 0) q ≡ false
 unfolding markedIn
-none-marked n q = rw (same-all {A = ℕ} n 0 q) refl
+none-marked n q = rw (same-all {A = ℕ} n 0 (q / 8), zero-div (2 ^ (q % 8))) refl
 
 pub unmarked-most : (marked : ℕ → Bool) → unmarked marked ≤ 256
 unfolding unmarked

@@ -1,19 +1,23 @@
--- Marks, one for each of the 256 places of tickets, in lent bytes. Who uses them sees a test of places, `markedIn`, and how many places are
--- left.
-use Prim.Native.Nat.{ℕ}
+-- Marks of the 256 places of tickets, a bit for each, in lent bytes. Who uses them sees a test of places, `markedIn`, and how many places
+-- are left.
+use Prim.Native.Nat.{ℕ, _/_, _%_, _^_}
 use mathlib.Core.Bool.{Bool, not, _||_}
 use mathlib.Core.List.{List}
 use lib.Dec.{eqb}
 use lib.ListN.{getD}
 use Rattle.lists.specs.Lists.{countBelow}
 
--- "A lent scratch of 256 bytes, one for each ticket place"
+-- 02, 6/13: "32 bytes of marks"
 abbrev pub markBytes : ℕ
-markBytes = 256
+markBytes = 32
 
--- the place is marked: its byte is not 0
+-- binary digit i of the number is 1, the lowest digit is 0
+abbrev pub hasBit : ℕ → ℕ → Bool
+hasBit number i = eqb (number / 2 ^ i % 2) 1
+
+-- "one bit for a place": eight places in a byte
 unfoldable pub markedIn : List ℕ → ℕ → Bool
-markedIn marks place = not (eqb (getD marks place 0) 0)
+markedIn marks place = hasBit (getD marks (place / 8) 0) (place % 8)
 
 -- the same marks and one more
 unfoldable pub withMark : ℕ → (ℕ → Bool) → ℕ → Bool

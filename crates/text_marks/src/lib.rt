@@ -1,24 +1,33 @@
-// Marks of the 256 places of tickets, in lent bytes: one byte for each place.
-ghost use Prim.Native.Nat.{_<_};
+// Marks of the 256 places of tickets, in lent bytes: a bit for each place, tested and set by a mask.
+ghost use Prim.Native.Nat.{_%_, _^_, _<_};
 ghost use mathlib.Core.Path.{_≡_};
 ghost use lib.ListN.{length, replicate};
 ghost use Rattle.text_marks.specs.Marks.{markBytes, markedIn, withMark};
 
 // Bytes of the marks.
-pub const MARKS: usize = 256;
+pub const MARKS: usize = 32;
+
+// The place's bit, in the byte that has it.
+fn mask(place: usize) -> u8
+    ensures { λ r. ⌜ r ≡ 2 ^ (place % 8) ⌝ }
+{
+    let bit = place % 8;
+    1u8 << bit
+}
 
 pub fn is_marked(marks: &[u8], place: usize) -> bool
     requires { ⌜ (length (now marks) ≡ markBytes) × (place < 256) ⌝ }
     ensures { λ r. ⌜ r ≡ markedIn (now (marks .entry)) place ⌝ }
 {
-    marks[place] != 0
+    marks[place / 8] & mask(place) != 0
 }
 
 pub fn mark(marks: &mut [u8], place: usize)
     requires { ⌜ (length (now marks) ≡ markBytes) × (place < 256) ⌝ }
     ensures { λ _. ⌜ markedIn (now (marks .exit)) ≡ withMark place (markedIn (now (marks .entry))) ⌝ }
 {
-    marks[place] = 1;
+    let at = place / 8;
+    marks[at] = marks[at] | mask(place);
 }
 
 // Every byte becomes 0, whatever the length.

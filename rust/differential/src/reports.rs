@@ -9,6 +9,9 @@ use std::collections::BTreeMap;
 /// A report is deep where this many loans lie in a row.
 const DEEP: usize = 6;
 
+/// Scratches: none, the right length between its neighbours, and the length that was right up to version 4.
+const SCRATCHES: [usize; 5] = [0, REPORT_SCRATCH - 1, REPORT_SCRATCH, REPORT_SCRATCH + 1, 256];
+
 /// How many reports ..
 #[derive(Default)]
 pub struct Reports {
@@ -32,12 +35,16 @@ impl Reports {
         let whole = wanted((REPORT_SCRATCH, REPORT_ROOM));
         let length = whole.as_ref().map_or(100, String::len);
         let outputs = [0, length - 1, length, length + 1, REPORT_ROOM];
-        let any = ([0, 1, 255, 256, 257, 512][rng.below(6)], outputs[rng.below(5)]);
+        let any = (vec![255; SCRATCHES[rng.below(5)]], outputs[rng.below(5)]);
         let tables = resized(rng, &sides.tables);
         self.call(rng, &tables, any, Err(Refusal::Length))?;
-        self.call(rng, &sides.tables, any, wanted(any))?;
-        for lengths in outputs.map(|output| (REPORT_SCRATCH, output)) {
-            self.call(rng, &sides.tables, lengths, wanted(lengths))?;
+        for scratch in SCRATCHES {
+            let output = outputs[rng.below(5)];
+            self.call(rng, &sides.tables, (vec![255; scratch], output), wanted((scratch, output)))?;
+        }
+        for output in outputs {
+            let scratch = bytes(rng, REPORT_SCRATCH);
+            self.call(rng, &sides.tables, (scratch, output), wanted((REPORT_SCRATCH, output)))?;
         }
         match (&sides.state, whole) {
             (Some(state), Ok(whole)) => self.check(rng, state, &whole),
@@ -45,17 +52,17 @@ impl Reports {
         }
     }
 
-    /// One call, with any bytes in a scratch and an output of these lengths. Afterwards the scratch is zeros, and the output what it
-    /// was behind the report.
+    /// One call, with this scratch and any bytes in an output of this length. Afterwards the scratch is zeros, and the output what it was
+    /// behind the report.
     fn call(
         &mut self,
         rng: &mut Rng,
         tables: &[u8],
-        (scratch, output): (usize, usize),
+        (mut scratch, output): (Vec<u8>, usize),
         wanted: Result<String, Refusal>,
     ) -> Result<(), String> {
         let (number, text) = wanted.map_or_else(|refusal| (refusal as u16, String::new()), |text| (0, text));
-        let (mut scratch, mut output, mut length) = (bytes(rng, scratch), bytes(rng, output), usize::MAX);
+        let (mut output, mut length) = (bytes(rng, output), usize::MAX);
         let mut left = output.clone();
         left[..text.len()].copy_from_slice(text.as_bytes());
         let result = raw::report(tables, &mut scratch, &mut output, &mut length);

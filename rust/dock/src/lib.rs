@@ -23,9 +23,9 @@ pub const ANSWER: usize = 3;
 /// Bytes that every trace fits into, and bytes of the longest input that is not refused whole.
 pub const TRACE_ROOM: usize = 983_074;
 pub const TRACE_INPUT: usize = 65_536;
-/// Bytes that every report fits into, and bytes of its scratch: one for each ticket place.
+/// Bytes that every report fits into, and bytes of its scratch: one bit for each ticket place.
 pub const REPORT_ROOM: usize = 6_196;
-pub const REPORT_SCRATCH: usize = 256;
+pub const REPORT_SCRATCH: usize = 32;
 /// Bytes that every saved text fits into.
 pub const SAVED_ROOM: usize = 18_309;
 /// Bytes of stack that a call may take, a report and a trace: measured, not proved.

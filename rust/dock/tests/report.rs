@@ -1,4 +1,4 @@
-//! Document 02's second request, through the library: the ward report, its scratch and its output.
+//! Document 02's second and sixth requests, through the library: the ward report, its scratch and its output.
 
 use dock::{layout, raw, rights, Answer, Dock, Refusal, Request, REPORT_ROOM, REPORT_SCRATCH, SHEET};
 
@@ -110,7 +110,8 @@ fn an_emptied_dock() {
 #[test]
 fn a_scratch_of_another_length() {
     let dock = two_loans();
-    for length in [0, 1, 255, 257, 512] {
+    // 256 was the length up to version 4.
+    for length in [0, 1, 31, 33, 64, 255, 256, 257] {
         let refused = (Refusal::Scratch.number(), String::new());
         assert_eq!(call(&dock.tables[..], length, REPORT_ROOM), refused);
         // 16 comes before 17.
@@ -138,7 +139,7 @@ fn tables_of_another_length_or_out_of_order_come_first() {
     // No ticket has the kind 5.
     dock.tables[layout::TICKET_KIND_AT] = 5;
     let not_in_order = (Refusal::NotInOrder.number(), String::new());
-    for scratch in [0, 255, 256, 257] {
+    for scratch in [0, 31, 32, 33, 256] {
         for output in [0, REPORT_ROOM] {
             assert_eq!(call(&dock.tables[..], scratch, output), not_in_order);
             assert_eq!(call(&dock.tables[1..], scratch, output), length);
@@ -160,6 +161,23 @@ fn a_grant_in_every_place() {
     }
     lines.sort_unstable();
     lines.push("256 0".to_string());
+    let lines: Vec<&str> = lines.iter().map(String::as_str).collect();
+    assert_eq!(report(&dock), text(&lines));
+}
+
+/// The eight places of one program share a byte of marks: they are printed in another order than they lie in.
+#[test]
+fn eight_loans_to_one_program() {
+    let mut dock = Dock::new();
+    let mut lines = Vec::new();
+    for place in 0..8 {
+        let lender = (1, 7 - place);
+        let taken = take(&mut dock, lender, 1);
+        assert_eq!(lend(&mut dock, lender, taken, THEATRE), (2, place + 1));
+        lines.extend([format!("1 2 0 {} {place} 1 7", place + 1), format!("0 1 {} 1 {place} 1 7", lender.1)]);
+    }
+    lines.reverse();
+    lines.push("8 248".to_string());
     let lines: Vec<&str> = lines.iter().map(String::as_str).collect();
     assert_eq!(report(&dock), text(&lines));
 }

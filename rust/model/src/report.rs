@@ -4,8 +4,8 @@ use crate::eight::SheetSet;
 use crate::text::line;
 use crate::{Grant, Name, Refusal, Sheets, Source, State, Ticket, SHEETS};
 
-/// Bytes of the scratch, one for each ticket place. The model marks nothing in it.
-pub const SCRATCH: usize = 256;
+/// "32 bytes of marks, one bit for a place", document 02's sixth request. The model marks nothing in them.
+pub const SCRATCH: usize = 32;
 
 const NAMES: &str = "depth pad program ticket first count rights";
 
