@@ -9,7 +9,7 @@ mod refusal;
 pub use refusal::Refusal;
 
 /// The version that this binding was written for: major * 10000 + minor * 100 + patch.
-pub const VERSION: u32 = 40_000;
+pub const VERSION: u32 = 50_000;
 
 /// Bytes of the tables' image.
 pub const TABLES: usize = 11_328;
