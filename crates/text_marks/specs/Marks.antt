@@ -11,7 +11,7 @@ use Rattle.lists.specs.Lists.{countBelow}
 abbrev pub markBytes : ℕ
 markBytes = 32
 
--- binary digit i of the number is 1, the lowest digit is 0
+-- binary digit i of the number is 1, counted from the lowest, which is digit 0
 abbrev pub hasBit : ℕ → ℕ → Bool
 hasBit number i = eqb (number / 2 ^ i % 2) 1
 

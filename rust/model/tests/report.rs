@@ -34,7 +34,9 @@ depth pad program ticket first count rights
 ";
     assert_eq!(after(LOANS).report(SCRATCH, wanted.len()), Ok(wanted.to_string()));
     assert_eq!(after(LOANS).report(SCRATCH, wanted.len() - 1), Err(Refusal::TooShort));
-    assert_eq!(after(LOANS).report(SCRATCH + 1, 0), Err(Refusal::Scratch));
+    for scratch in [0, SCRATCH - 1, SCRATCH + 1, 256] {
+        assert_eq!(after(LOANS).report(scratch, 0), Err(Refusal::Scratch));
+    }
 }
 
 #[test]
