@@ -1,5 +1,8 @@
 // A batch of requests over lent buffers. The image is tested for order once; the requests are then served one after the other, on the
 // image where it lies. `serve` asks nothing of its caller.
+
+#![tactic(auto)]
+
 ghost use Rattle.std.specs.Prelude.{◌≡◌, true, length};
 ghost use Rattle.tables.specs.Order.{in_order};
 ghost use Rattle.machine.specs.Numbers.{answer_width, answer_numbers};

@@ -1,7 +1,9 @@
 // Which sheets a take uses: the definition and what is claimed of it in specs/, that it is so in proofs/. The code is op_run's.
 
+#![tactic(auto)]
+
 // So many sheets from a sheet on.
-#[derive(Drop)]
+#[derive(Clone, Copy)]
 pub struct Run {
     pub first: u32,
     pub count: u32,

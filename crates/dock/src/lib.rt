@@ -1,5 +1,8 @@
 // The routines that a host in C or Rust calls: include/dock.h declares them. Numbers pass as themselves, a slice as a pointer and then a
 // length. None asks anything of its caller beyond what a slice means: memory of that length, and no overlap.
+
+#![tactic(auto)]
+
 ghost use Rattle.std.specs.Prelude.{◌≡◌};
 ghost use Rattle.image.specs.Layout.{image_size};
 ghost use Rattle.lending.specs.Batch.{buffers_of, Leaves};

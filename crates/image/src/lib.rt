@@ -1,5 +1,7 @@
 // The image of the tables: the layout's numbers in code. What the image is stands in specs/: Layout, Numbers, Image.
 
+#![tactic(auto)]
+
 // ---- a ticket
 
 pub const TICKET_KIND: usize = 0;

@@ -1,4 +1,7 @@
 // Chains of parents on a pad, walked by name in the image: the links that lead to the head of a chain.
+
+#![tactic(auto)]
+
 ghost use Rattle.std.specs.Prelude.{◌≡◌, length};
 ghost use Rattle.tables.specs.Lookup.{lookup};
 ghost use Rattle.tables.specs.Chains.{parent_by, chain_links};

@@ -1,4 +1,7 @@
 // A ticket, its place and an entry found by name in the tables' image, a program found by its numbers, and a free place for a ticket or an entry.
+
+#![tactic(auto)]
+
 ghost use Rattle.std.specs.Prelude.{◌/◌, ◌%◌, ◌<◌, ◌≡◌, length};
 ghost use Rattle.lists.specs.Lists.{first_index};
 ghost use Rattle.tables.specs.Lookup.{is_named, program_at, tickets_of, lookup, place_of, entry_of};

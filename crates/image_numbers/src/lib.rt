@@ -1,4 +1,7 @@
 // A program's tickets by number: the numbers of those that are wanted, each in its place, and the place of the next above a number.
+
+#![tactic(auto)]
+
 ghost use Rattle.std.specs.Prelude.{◌≡◌, ◌≤◌, ◌<◌, eqb, length, get_or};
 ghost use Rattle.tables.specs.Kinds.{is_taken};
 ghost use Rattle.tables.specs.Names.{free};

@@ -1,4 +1,7 @@
 // A pad by places, read from the tables' image: the number in each place, the place of a number, and the place of each ticket's parent.
+
+#![tactic(auto)]
+
 ghost use Rattle.std.specs.Prelude.{◌<◌, ◌≡◌, length};
 ghost use Rattle.image.specs.Layout.{image_size};
 ghost use Rattle.image.specs.Image.{decode};

@@ -2,6 +2,9 @@
 // A ticket's place is 64 * pad + 8 * program + the place in the program; a name's is found through the named program's eight numbers. In a
 // chain `up[i]` is the place of i's parent, and a number that is no place says that i has none: tickets of a pad and entries of the dock are
 // walked alike.
+
+#![tactic(auto)]
+
 ghost use Rattle.std.specs.Prelude.{◌≡◌, ◌<◌, length, eqb};
 ghost use Rattle.lists.specs.Lists.{first_index};
 ghost use Rattle.image_places.specs.Places.{number_of, place_in};

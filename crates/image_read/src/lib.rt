@@ -1,4 +1,7 @@
 // The tables read from their image by place: a ticket, a last number, a program, an entry.
+
+#![tactic(auto)]
+
 ghost use Rattle.std.specs.Prelude.{◌+◌, ◌*◌, ◌<◌, ◌≤◌, ◌≡◌, length, get_or, drop};
 ghost use Rattle.image.specs.Layout.{ticket_size, program_size, entry_size, image_size};
 ghost use Rattle.image.specs.Numbers.{number_at};

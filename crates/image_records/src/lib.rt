@@ -1,4 +1,7 @@
 // A ticket and an entry written as their bytes in the image.
+
+#![tactic(auto)]
+
 ghost use Rattle.std.specs.Prelude.{◌*◌, ◌≡◌, cond, length};
 ghost use Rattle.image.specs.Layout.{ticket_size, entry_size};
 ghost use Rattle.image.specs.Numbers.{bytes_of};

@@ -1,4 +1,7 @@
 // The tables changed where they lie: a ticket, a last number and an entry written into the image at their places.
+
+#![tactic(auto)]
+
 ghost use Rattle.std.specs.Prelude.{◌<◌, ◌≡◌, true, set};
 ghost use Rattle.image.specs.Image.{is_image};
 ghost use Rattle.image_read.specs.Places.{tickets_in, lasts_in, entries_in};

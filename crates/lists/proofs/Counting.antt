@@ -118,3 +118,4 @@ module _ {A : Type 0} where
       go : Case (test x) → count_of test xs ≡ 1 → cond (test x) (suc (count_of test xs)) (count_of test xs) ≡ 1
       go (fail z) rest = rw z rest
       go (pass z) rest = absurd (out (subst (λ (b : A). In b xs) (sym (only x (first refl) z)) i))
+  count_one test [] _ a x5 p only = elim x5 [ ]

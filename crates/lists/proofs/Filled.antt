@@ -46,9 +46,12 @@ module _ {A : Type 0} where
   filled_out (suc n) d [] z (later m) = filled_out n d [] z m
   filled_out (suc n) d (x ∷ xs) z (first e) = inr (first e)
   filled_out (suc n) d (x ∷ xs) z (later m) = ⊎_elim inl (λ i. inr (later i)) (filled_out n d xs z m)
+  filled_out zero d xs z x' = elim x' [ ]
 
   pub filled_in : (n : ℕ) (d : A) (xs : List A) → length xs ≤ n → (z : A) → In z xs → In z (filled n d xs)
   unfolding filled
   filled_in zero d (x ∷ xs) b z m = absurd (omega arith)
   filled_in (suc n) d (x ∷ xs) b z (first e) = first e
   filled_in (suc n) d (x ∷ xs) b z (later m) = later (filled_in n d xs (omega (arith, b)) z m)
+  filled_in zero d [] b z m = elim m [ ]
+  filled_in (suc n) d [] b z m = elim m [ ]

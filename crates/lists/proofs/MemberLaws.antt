@@ -40,6 +40,7 @@ module _ {A : Type 0} where
   pub at_of : (d a : A) (xs : List A) → In a xs → At d a xs
   at_of d a (x ∷ xs) (first e) = record { place = 0; low = omega arith; is = sym e }
   at_of d a (x ∷ xs) (later i) = let p = at_of d a xs i in record { place = suc p.place; low = omega (arith, p.low); is = p.is }
+  at_of d a [] x' = elim x' [ ]
 
   pub in_place : (d : A) (xs : List A) (i : ℕ) → i < length xs → In (get_or xs i d) xs
   in_place d [] i b = absurd (omega arith)
@@ -50,6 +51,7 @@ module _ {A : Type 0} where
   pub in_left : (a : A) (xs ys : List A) → In a xs → In a (xs ++ ys)
   in_left a (x ∷ xs) ys (first e) = first e
   in_left a (x ∷ xs) ys (later i) = later (in_left a xs ys i)
+  in_left a [] ys x' = elim x' [ ]
 
   pub in_right : (a : A) (xs ys : List A) → In a ys → In a (xs ++ ys)
   in_right a [] ys i = i
@@ -74,6 +76,7 @@ module _ {A : Type 0} where
       go : (b : Bool) → In a (keep test xs) → In a (cond b (x ∷ keep test xs) (keep test xs))
       go true j = later j
       go false j = j
+  in_keep test a [] x'' t = elim x'' [ ]
 
   pub record Kept (test : A → Bool) (a : A) (xs : List A) : Type 0 where
     pub member : In a xs
@@ -90,6 +93,7 @@ module _ {A : Type 0} where
           at_front : In a (x ∷ keep test xs) → (In a (keep test xs) → Kept test a xs) → Kept test a (x ∷ xs)
           at_front (first z) h = record { member = first z; passes = ap test z ∙ e }
           at_front (later j) h = let k = h j in record { member = later k.member; passes = k.passes }
+  kept test a [] i = elim i [ ]
 
   pub once_keep : (test : A → Bool) (xs : List A) → Once xs → Once (keep test xs)
   unfolding keep
@@ -134,6 +138,7 @@ module _ {A : Type 0} where
   tabulated (suc n) f a (first e) = record { place = 0; low = omega arith; is = e }
   tabulated (suc n) f a (later i) =
       let t = tabulated n (λ j. f (suc j)) a i in record { place = suc t.place; low = omega (arith, t.low); is = t.is }
+  tabulated zero f a x' = elim x' [ ]
 
   pub once_tabulate : (n : ℕ) (f : ℕ → A) → ((i j : ℕ) → f i ≡ f j → i ≡ j) → Once (tabulate n f)
   unfolding tabulate
@@ -192,10 +197,12 @@ pub record Mapped {A B : Type 0} (f : A → B) (b : B) (xs : List A) : Type 0 wh
 pub mapped : {A B : Type 0} (f : A → B) (b : B) (xs : List A) → In b (map f xs) → Mapped f b xs
 mapped f b (x ∷ xs) (first e) = record { from = x; member = first refl; is = e }
 mapped f b (x ∷ xs) (later i) = let m = mapped f b xs i in record { from = m.from; member = later m.member; is = m.is }
+mapped {A = A} {B = B} f b [] x' = elim x' [ ]
 
 pub in_map : {A B : Type 0} (f : A → B) (a : A) (xs : List A) → In a xs → In (f a) (map f xs)
 in_map f a (x ∷ xs) (first e) = first (ap f e)
 in_map f a (x ∷ xs) (later i) = later (in_map f a xs i)
+in_map {A = A} {B = B} f a [] x' = elim x' [ ]
 
 pub all_map : {A B : Type 0} (test : B → Bool) (f : A → B) (xs : List A) → ((a : A) → In a xs → test (f a) ≡ true) → all test (map f xs) ≡ true
 all_map test f xs h =
@@ -232,11 +239,13 @@ flat f b (x ∷ xs) i =
     ⊎_elim (λ j. record { from = x; member = first refl; part = j }) (λ j. (let r = flat f b xs j in record
     { from = r.from; member = later r.member; part = r.part }))
     (in_either b (f x) (flat_map f xs) i)
+flat {A = A} {B = B} f b [] i = elim i [ ]
 
 pub in_flat : {A B : Type 0} (f : A → List B) (b : B) (a : A) (xs : List A) → In a xs → In b (f a) → In b (flat_map f xs)
 unfolding flat_map
 in_flat f b a (x ∷ xs) (first e) i = in_left b (f x) (flat_map f xs) (subst (λ (y : _). In b (f y)) e i)
 in_flat f b a (x ∷ xs) (later j) i = in_right b (f x) (flat_map f xs) (in_flat f b a xs j i)
+in_flat {A = A} {B = B} f b a [] x'' i = elim x'' [ ]
 
 pub once_flat : {A B C : Type 0} (f : A → List B) (g : B → C) (xs : List A) → Once xs → ((a : A) → In a xs → Once (map g (f a)))
     → ((a a' : A) (c : C) → In a xs → In a' xs → In c (map g (f a)) → In c (map g (f a')) → a ≡ a') → Once (map g (flat_map f xs))

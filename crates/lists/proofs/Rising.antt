@@ -142,6 +142,7 @@ module _ {A : Type 0} (key : A → ℕ) where
   one_key (z ∷ zs) r x y (first a) (later b) e = let q : key x ≡ key z = ap key a in absurd (omega (arith, below r y b, e, q))
   one_key (z ∷ zs) r x y (later a) (first b) e = let q : key y ≡ key z = ap key b in absurd (omega (arith, below r x a, e, q))
   one_key (z ∷ zs) r x y (later a) (later b) e = one_key zs (rest r) x y a b e
+  one_key [] r x y x6 _ e = elim x6 [ ]
 
   -- ---- counts
   put_count : (test : A → Bool) (x : A) (l : List A) → count_of test (put_into key x l) ≡ count_of test (x ∷ l)

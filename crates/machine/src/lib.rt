@@ -1,7 +1,9 @@
 // The machine: the request and the answer as records. No code: what a request does is defined in specs/.
 
+#![tactic(auto)]
+
 // Nine whole numbers, 0 to 65,535.
-#[derive(Drop)]
+#[derive(Clone, Copy)]
 pub struct Request {
     pub pad: u16,
     pub program: u16,
@@ -15,7 +17,7 @@ pub struct Request {
 }
 
 // Result (0 or a refusal), the asker's new number, the recipient's new number; 0 where there is none.
-#[derive(Drop)]
+#[derive(Clone, Copy)]
 pub struct Answer {
     pub result: u16,
     pub ticket: u16,

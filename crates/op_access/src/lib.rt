@@ -1,4 +1,7 @@
 // Op 5, read, and op 6, write: the pad's own tests, then the dock's check.
+
+#![tactic(auto)]
+
 ghost use Rattle.std.specs.Prelude.{◌≡◌, true, length};
 ghost use Rattle.machine.specs.State.{state_of};
 ghost use Rattle.machine.specs.Access.{access_refusal};

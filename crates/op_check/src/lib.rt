@@ -1,4 +1,7 @@
 // The dock's own check, over the entry that was found.
+
+#![tactic(auto)]
+
 ghost use Rattle.std.specs.Prelude.{◌≡◌};
 ghost use Rattle.tables.specs.declared.{Name.Name, Tables.Tables};
 ghost use Rattle.tables.specs.Lookup.{entry_of};

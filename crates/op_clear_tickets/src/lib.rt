@@ -1,4 +1,7 @@
 // The marked tickets of a pad, cleared on the tables' image where it lies.
+
+#![tactic(auto)]
+
 ghost use Rattle.std.specs.Prelude.{◌*◌, ◌-◌, ◌<◌, ◌≡◌, true, ◌&&◌, eqb, length, get_or};
 ghost use Rattle.tables.specs.Kinds.{is_live};
 ghost use Rattle.tables.specs.Names.{free};

@@ -1,4 +1,7 @@
 // Removal in the dock: an entry with all below it, in the image.
+
+#![tactic(auto)]
+
 ghost use Rattle.std.specs.Prelude.{◌≡◌, true};
 ghost use Rattle.tables.specs.Chains.{at_or_below};
 ghost use Rattle.tables.specs.Change.{drop_entries};

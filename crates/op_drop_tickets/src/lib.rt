@@ -1,5 +1,8 @@
 // Removal on a pad, in the image: the head of a chain with all under it, and one ticket by itself; and what is under a ticket, marked.
 // What goes is marked first, so that no test reads what was cleared.
+
+#![tactic(auto)]
+
 ghost use Rattle.std.specs.Prelude.{◌<◌, ◌≡◌, true, length};
 ghost use Rattle.tables.specs.Kinds.{is_head};
 ghost use Rattle.tables.specs.Names.{name_of, eq_name};

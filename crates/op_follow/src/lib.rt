@@ -1,4 +1,7 @@
 // A loan on a pad goes, in the image: the ticket with all under it, and in the dock what was lent away from there to other pads.
+
+#![tactic(auto)]
+
 ghost use Rattle.std.specs.Prelude.{◌<◌, ◌≡◌, true, length};
 ghost use Rattle.tables.specs.Change.{drop_entries};
 ghost use Rattle.image.specs.Image.{decode, is_image};

@@ -1,4 +1,7 @@
 // The form of a request: read from its numbers, and the refusals before every operation that the request alone decides: 1, 2 and 3.
+
+#![tactic(auto)]
+
 ghost use Rattle.std.specs.Prelude.{◌≤◌, ◌≡◌, length};
 ghost use Rattle.machine.specs.Numbers.{request_width, request_of};
 ghost use Rattle.machine.specs.Operation.{field_ok, fields_ok};
@@ -29,7 +32,7 @@ pub fn request_in(numbers: &[u16]) -> Request
 }
 
 // Which fields an operation uses; the recipient is to-pad and to-program.
-#[derive(Drop)]
+#[derive(Clone, Copy)]
 pub struct Used {
     pub ticket: bool,
     pub recipient: bool,

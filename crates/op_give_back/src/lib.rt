@@ -1,4 +1,7 @@
 // Op 4, give back.
+
+#![tactic(auto)]
+
 ghost use Rattle.std.specs.Prelude.{◌≡◌, true, List, ℕ, length};
 ghost use Rattle.machine.specs.State.{state_of};
 ghost use Rattle.machine.specs.GiveBack.{give_back_refusal};

@@ -1,4 +1,7 @@
 // A ticket given and an entry made, in the lowest free place, in the image.
+
+#![tactic(auto)]
+
 ghost use Rattle.std.specs.Prelude.{◌/◌, ◌%◌, ◌<◌, ◌≡◌, true};
 ghost use Rattle.tables.specs.Change.{give, put_entry};
 ghost use Rattle.image.specs.Image.{decode, is_image};

@@ -1,4 +1,7 @@
 // The tickets and entries that take and pass make.
+
+#![tactic(auto)]
+
 ghost use Rattle.std.specs.Prelude.{◌≡◌};
 ghost use Rattle.tables.specs.declared.Kind.TheVariants.{Child};
 ghost use Rattle.tables.specs.Names.{grant_ticket, head_ticket, recall_ticket, entry_for};

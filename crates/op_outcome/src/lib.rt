@@ -1,4 +1,7 @@
 // What the operations have in common: what they look up, how they answer and refuse, and how a program is given a ticket.
+
+#![tactic(auto)]
+
 ghost use Rattle.std.specs.Prelude.{◌+◌, ◌*◌, ◌≡◌, true, length};
 ghost use Rattle.tables.specs.Change.{give};
 ghost use Rattle.tables.proofs.NameLaws.{Possible};
@@ -14,7 +17,7 @@ use op_refusals::Seat;
 use tables::{Name, Ticket};
 
 // What is decided of a request for a ticket: its refusal, 0 where the step accepts it, and the ticket asked for.
-#[derive(Drop)]
+#[derive(Clone, Copy)]
 pub struct Decision {
     pub result: u16,
     pub ticket: Ticket,

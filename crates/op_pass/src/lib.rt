@@ -1,4 +1,7 @@
 // Op 2, pass.
+
+#![tactic(auto)]
+
 ghost use Rattle.std.specs.Prelude.{◌≡◌, true, not, ◌&&◌, List, ℕ, ◌+◌, ◌<◌, eqb, length};
 ghost use Rattle.tables.specs.Lookup.{entry_of};
 ghost use Rattle.tables.proofs.NameLaws.{Possible};
@@ -17,7 +20,7 @@ use tables::{Kind, Name, Ticket};
 
 // What is decided of a pass: its refusal, 0 where the step accepts it, and the ticket asked for; and then the new numbers of asker and
 // recipient.
-#[derive(Drop)]
+#[derive(Clone, Copy)]
 pub struct Decision {
     pub result: u16,
     pub ticket: Ticket,

@@ -1,4 +1,7 @@
 // Op 3, recall.
+
+#![tactic(auto)]
+
 ghost use Rattle.std.specs.Prelude.{◌≡◌, true, List, ℕ, length};
 ghost use Rattle.machine.specs.State.{state_of};
 ghost use Rattle.machine.specs.Recall.{recall_refusal};

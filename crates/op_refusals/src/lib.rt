@@ -1,4 +1,7 @@
 // The refusals of the operations, decided from what was found.
+
+#![tactic(auto)]
+
 ghost use Rattle.std.specs.Prelude.{◌≡◌, not, ◌||◌};
 ghost use Rattle.rights.specs.Rules.{within, can_pass};
 ghost use Rattle.tables.specs.declared.Tables.{Tables};
@@ -14,7 +17,7 @@ use rights::Rights;
 use tables::{Kind, Ticket};
 
 // What a program has for a new ticket: whether all its places are taken, and its last number.
-#[derive(Drop)]
+#[derive(Clone, Copy)]
 pub struct Seat {
     pub full: bool,
     pub last: u16,

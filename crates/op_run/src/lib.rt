@@ -1,4 +1,7 @@
 // The run of sheets that a take uses, and how many sheets no entry of the image has.
+
+#![tactic(auto)]
+
 ghost use Rattle.std.specs.Prelude.{◌≡◌, ◌≤◌, length};
 ghost use Rattle.tables.specs.Sheets.{sheets_free};
 ghost use Rattle.best_fit.specs.BestFit.{best_fit};

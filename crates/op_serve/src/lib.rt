@@ -1,5 +1,8 @@
 // The step past 13 and 14 on lent tables, for callers that know their buffers' lengths and that the tables are in order. It pays for no
 // order test and changes the image where it lies.
+
+#![tactic(auto)]
+
 ghost use Rattle.machine.specs.State.{state_of};
 ghost use Rattle.machine.specs.Step.{serve};
 ghost use Rattle.image.specs.Image.{decode};

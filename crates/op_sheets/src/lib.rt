@@ -1,4 +1,7 @@
 // The lent ink store, 256 sheets of 64 bytes: sheets are cleared, read and written.
+
+#![tactic(auto)]
+
 ghost use Rattle.std.specs.Prelude.{◌≡◌, ◌+◌, ◌<◌, ◌≤◌, length, replicate};
 ghost use Rattle.machine.specs.State.{sheet_at, put_sheets, clear_sheets};
 

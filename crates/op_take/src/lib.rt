@@ -1,4 +1,7 @@
 // Op 1, take.
+
+#![tactic(auto)]
+
 ghost use Rattle.std.specs.Prelude.{◌≡◌, true, List, ℕ, length};
 ghost use Rattle.machine.specs.State.{state_of};
 ghost use Rattle.machine.specs.Step.{serve};
@@ -12,7 +15,7 @@ use machine::{Answer, Request};
 use tables::{Kind, Name};
 
 // What is decided of a take: its refusal, 0 where the step accepts it; and then the new number, and the first sheet.
-#[derive(Drop)]
+#[derive(Clone, Copy)]
 pub struct Decision {
     pub result: u16,
     pub number: u16,

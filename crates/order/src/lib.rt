@@ -1,5 +1,8 @@
 // The order test: is it an image, and are its tables in order by T1 to T6?
 // The tables are read from their image where it lies: nothing is copied.
+
+#![tactic(auto)]
+
 ghost use Rattle.std.specs.Prelude.{◌≡◌, ◌&&◌, length};
 ghost use Rattle.tables.specs.Order.{in_order};
 ghost use Rattle.image.specs.Layout.{image_size};

@@ -1,4 +1,7 @@
 // T3: children with their parents, and the heads of their chains.
+
+#![tactic(auto)]
+
 ghost use Rattle.std.specs.Prelude.{◌≡◌, true, List, length, replicate};
 ghost use Rattle.tables.specs.declared.{Ticket.Ticket, Tables.Tables};
 ghost use Rattle.tables.specs.Kinds.{is_child};

@@ -1,4 +1,7 @@
 // T5 past the notes: the entries' parents, their chains, the sheets of those under the store, and the taken grants' entries.
+
+#![tactic(auto)]
+
 ghost use Rattle.std.specs.Prelude.{◌≡◌, true, false, List, length, replicate};
 ghost use Rattle.tables.specs.declared.{Ticket.Ticket, Tables.Tables};
 ghost use Rattle.tables.specs.Kinds.{is_taken};
@@ -14,7 +17,7 @@ ghost use Rattle.order_entries.specs.Parents.{Linking, hung_ok};
 ghost use Rattle.order_entries.specs.Order.{taken_noted, EntryOrder};
 
 // Is T5 kept, and how many grants are listed that entries under others name?
-#[derive(Drop)]
+#[derive(Clone, Copy)]
 pub struct Entries {
     pub ok: bool,
     pub received: usize,

@@ -1,4 +1,7 @@
 // Does every chain of parents end? Asked of parents by places, 256 of them, a chain at a time; no link is followed twice.
+
+#![tactic(auto)]
+
 ghost use Rattle.std.specs.Prelude.{◌≡◌, ◌<◌, length};
 ghost use Rattle.order_lists.specs.Listing.{AllBelow};
 ghost use Rattle.order_entry_chains.specs.Ends.{Settled, LinksListed, all_end};

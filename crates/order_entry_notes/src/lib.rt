@@ -1,4 +1,7 @@
 // The entries noted at the places of the grants that they name, and the entry of a name found by its note.
+
+#![tactic(auto)]
+
 ghost use Rattle.std.specs.Prelude.{◌≡◌, true, false, cond, length, replicate};
 ghost use Rattle.image.specs.Layout.{image_size};
 ghost use Rattle.image.specs.Image.{lives_ok};
@@ -8,7 +11,7 @@ ghost use Rattle.order_entry_notes.specs.Notes.{Noting, Listed, note_of, place_o
 use tables::{Entry, Name};
 
 // Are all entries noted; and how many of them are listed as under the store and as under others?
-#[derive(Drop)]
+#[derive(Clone, Copy)]
 pub struct Entries {
     pub ok: bool,
     pub roots: usize,

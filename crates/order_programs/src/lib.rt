@@ -1,6 +1,9 @@
 // T1, T2 and T4: numbers, spans and dock names, place by place, in one pass over the tickets.
 // On the way each kind is tested to be one of the five, the numbers are written down as an index of the tickets, and the places that the
 // later tests go over are listed.
+
+#![tactic(auto)]
+
 ghost use Rattle.std.specs.Prelude.{◌<◌, ◌≡◌, true, false, ◌&&◌, length, replicate};
 ghost use Rattle.lists.specs.Tests.{between};
 ghost use Rattle.tables.specs.declared.Tables.{Tables};
@@ -15,7 +18,7 @@ ghost use Rattle.order_programs.specs.Parts.{grant_ok, is_new, ticket_ok, Indexe
 use tables::{Name, Ticket};
 
 // Are kinds, numbers, spans and dock names as they should be; and how many taken grants, children and recalls are listed?
-#[derive(Drop)]
+#[derive(Clone, Copy)]
 pub struct Tickets {
     pub ok: bool,
     pub taken: usize,

@@ -1,5 +1,8 @@
 // "No target has two recalls; every child has one", and so has every entry below another: a test of the targets' keys, one for each place.
 // A key below 256 is the place of a live target, a key above 256 names a target without a place, and 256 stands where there is no recall.
+
+#![tactic(auto)]
+
 ghost use Rattle.std.specs.Prelude.{◌≡◌, map, eqb, length, replicate};
 ghost use Rattle.lists.specs.Lists.{all, some, no_two};
 ghost use Rattle.tables.specs.Kinds.{is_recall};

@@ -1,6 +1,9 @@
 // T6: the recalls, each with its grant and its target, read from the image by place.
 // One pass finds each recall's target and keeps its key, one tests each recall by itself, and the keys tell whether a target has two recalls
 // and whether every child has one.
+
+#![tactic(auto)]
+
 ghost use Rattle.std.specs.Prelude.{◌+◌, ◌*◌, ◌<◌, ◌≡◌, not, ◌&&◌, map, eqb, length, get_or};
 ghost use Rattle.lists.specs.Tests.{between};
 ghost use Rattle.tables.specs.declared.Tables.{Tables};

@@ -1,5 +1,8 @@
 // The rules of tables in order about one ticket or entry and what it names, each as a test of values.
 // Each rule is the definition of the same name in tables/specs/Order.antt.
+
+#![tactic(auto)]
+
 ghost use Rattle.std.specs.Prelude.{◌≡◌, ◌&&◌, cond};
 ghost use Rattle.lists.specs.Tests.{implies, between};
 ghost use Rattle.tables.specs.Kinds.{is_taken, is_received};
@@ -21,7 +24,7 @@ pub fn is_between(low: u16, high: u16, x: u16) -> bool
 }
 
 // A run of sheets and the rights to it.
-#[derive(Drop)]
+#[derive(Clone, Copy)]
 pub struct Span {
     pub first: u16,
     pub count: u16,

@@ -1,4 +1,7 @@
 // Rights: read is 1, write is 2, pass on is 4, added together.
+
+#![tactic(auto)]
+
 ghost use Rattle.std.specs.Prelude.{◌%◌, ◌≡◌};
 ghost use Rattle.rights.specs.Rules.{rights_of, within, can_read, can_write, can_pass};
 ghost use Rattle.rights.specs.Chart.{charted};
@@ -17,7 +20,7 @@ fn charted(asked: u16, held: u16) -> bool
 }
 
 // Any number is taken as it stands. Which numbers are good rights, 1 to 7, is for the tables' rule T2 and the request's ranges.
-#[derive(Drop)]
+#[derive(Clone, Copy)]
 pub struct Rights {
     pub bits: u16,
 }

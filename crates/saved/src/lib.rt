@@ -1,9 +1,12 @@
 // The tables as text: what saving writes and what loading reads (document 02, 4/13). Here are only definitions, what is claimed of them, and
 // texts that were computed by them.
+
+#![tactic(auto)]
+
 use tables::Name;
 
 // A line's columns. `other` is a child's parent, a recall's target or an entry's parent; `own` is the number of a recall's grant.
-#[derive(Drop)]
+#[derive(Clone, Copy)]
 pub struct Row {
     pub kind: u16,
     pub pad: u16,

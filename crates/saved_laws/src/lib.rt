@@ -1,1 +1,3 @@
 // No code: that any text that loads is what saving would write of its tables.
+
+#![tactic(auto)]

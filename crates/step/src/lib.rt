@@ -1,5 +1,8 @@
 // The public routines over the tables' image, where it lies: emptying the dock, the order test, the dock's own check, and the step that
 // serves one request. None asks anything of its caller.
+
+#![tactic(auto)]
+
 ghost use Rattle.std.specs.Prelude.{◌≡◌};
 ghost use Rattle.lending.specs.Host.{EmptiesImage, order_of, check_image, lent_refusal, StepsLent};
 

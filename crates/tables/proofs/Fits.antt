@@ -2,13 +2,15 @@
 -- `program_fits c.good.0`; the result of a call f: `program_fits c.f.ok`.
 use Prim.Native.Nat.{ℕ, zero, suc, ◌<◌}
 use native.Mathlib.Omega.{arith}
-use mathlib.Core.Path.{◌≡◌, sym, ◌∙◌}
+use mathlib.Core.Path.{◌≡◌, refl, sym, ap, ◌∙◌, subst}
 use mathlib.Core.List.{List, [], ◌∷◌, map}
 use lib.ListN.{length, get_or, length-map}
 use mir.Val.{Val}
 use denote.Array.{each}
 use denote.Shadow.{shadow}
-use denote.Struct.Field.{Field, array_field}
+use denote.RattleType.{RattleType}
+use denote.Builtin.{Array, One}
+use denote.Struct.Field.{Field, row_field, array_field}
 use Rattle.rights.specs.declared.Rights.{Rights}
 use Rattle.rights.specs.contracts.Rights as rights
 use Rattle.tables.specs.declared.{Name.Name, Ticket.Ticket, Program.Program, Entry.Entry}
@@ -36,6 +38,15 @@ module _ (F : Field) (n : ℕ) (xs : List F.Value) where
   array_at o i d h =
       let e : length xs ≡ n = array_long o in
       each_at F xs o.1.0 i d (omega arith) o.1.1.1
+
+-- a struct's field that is an array stands at the array's own row
+array_owned : (R : RattleType) (one : One R.mir) (n : ℕ) (xs : List R.Denot) → Owned (row_field (Array R one n)) xs → Owned (array_field (row_field R) n) xs
+array_owned R one n xs o =
+    (o.0, subst (λ (ys : List R.Denot). shadow ((Array R one n).own_val ys o.0)) (sym (map_same xs)) o.1)
+  where
+    map_same : (ys : List R.Denot) → map (λ (y : R.Denot). y) ys ≡ ys
+    map_same [] = refl
+    map_same (y ∷ ys) = ap (λ (zs : List R.Denot). y ∷ zs) (map_same ys)
 
 -- ---- the tables' types
 pub record NameFits (x : Name) : Type 0 where
@@ -79,9 +90,10 @@ pub record ProgramFits (x : Program) : Type 0 where
 pub program_fits : (x : Program) → Owned program.the_field x → ProgramFits x
 program_fits x o =
     let f = o.1.1.1 in
+    let tickets : Owned (array_field (row_field ticket.the_row) 8) x.tickets = array_owned ticket.the_row (tt {0}) 8 x.tickets (_, f.0) in
     record {
-      long = array_long ticket.the_field 8 x.tickets (_, f.0);
-      ticket = λ i d h. ticket_fits _ (array_at ticket.the_field 8 x.tickets (_, f.0) i d h);
+      long = array_long (row_field ticket.the_row) 8 x.tickets tickets;
+      ticket = λ i d h. ticket_fits _ (array_at (row_field ticket.the_row) 8 x.tickets tickets i d h);
       last = f.1.0.1;
     }
 

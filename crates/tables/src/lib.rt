@@ -1,5 +1,8 @@
 // The tables of the pads and of the dock, as records by value, and the small tests and records of these types as code. What the
 // tables mean is defined in specs/.
+
+#![tactic(auto)]
+
 ghost use Rattle.std.specs.Prelude.{◌≡◌};
 ghost use Rattle.tables.specs.Kinds.{is_live, is_grant, is_head, is_taken, is_received, is_child, is_recall};
 ghost use Rattle.tables.specs.Names.{eq_name, no_name, free, no_entry};
@@ -9,7 +12,7 @@ use rights::Rights;
 
 // A ticket is a grant (taken, received or a child) or a recall. A place with no ticket is free. (SADRA, the published capability system that
 // document 01 builds on, calls a recall an indicator.)
-#[derive(Drop)]
+#[derive(Clone, Copy)]
 pub enum Kind {
     Free,
     Taken,
@@ -105,7 +108,7 @@ impl Kind {
 }
 
 // Pad, program and ticket number. An entry has the name of the taken or received grant that it was made for.
-#[derive(Drop)]
+#[derive(Clone, Copy)]
 pub struct Name {
     pub pad: u16,
     pub program: u16,
@@ -139,7 +142,7 @@ impl Name {
 
 // `other` is a child's parent or a recall's target; `own` is the number of the grant that a recall stands under; `dock` is a
 // grant's dock name. What a kind does not use says nothing.
-#[derive(Drop)]
+#[derive(Clone, Copy)]
 pub struct Ticket {
     pub kind: Kind,
     pub number: u16,
@@ -186,20 +189,20 @@ impl Ticket {
 }
 
 // Each program has eight places for tickets, and the last number that it was given.
-#[derive(Drop)]
+#[derive(Clone, Copy)]
 pub struct Program {
     pub tickets: [Ticket; 8],
     pub last: u16,
 }
 
 // What one pad controller holds.
-#[derive(Drop)]
+#[derive(Clone, Copy)]
 pub struct Pad {
     pub programs: [Program; 8],
 }
 
 // A parent with number 0 is the store itself.
-#[derive(Drop)]
+#[derive(Clone, Copy)]
 pub struct Entry {
     pub live: bool,
     pub name: Name,
@@ -245,7 +248,7 @@ impl Entry {
 }
 
 // What the four pad controllers and the dock controller hold.
-#[derive(Drop)]
+#[derive(Clone, Copy)]
 pub struct Tables {
     pub pads: [Pad; 4],
     pub entries: [Entry; 256],

@@ -1,5 +1,8 @@
 // Runs the stored cases of the trace: each argument NAME is a case, with its input in NAME.in and its whole trace in NAME.out. It writes
 // a line for each, `ok: NAME` or `differs: NAME`.
+
+#![tactic(auto)]
+
 ghost use Rattle.std.specs.Prelude.{◌≡◌, length};
 ghost use Rattle.text.specs.Bytes.{same_bytes};
 ghost use Rattle.trace_texts.specs.Trace.{trace_room, trace};
@@ -9,7 +12,7 @@ use text_trace::LONGEST;
 // ---- a file
 
 // What was read: a whole file of so many bytes, or not a whole one.
-#[derive(Drop)]
+#[derive(Clone, Copy)]
 enum Read {
     Whole(usize),
     Other,

@@ -1,5 +1,8 @@
 // Tests that numbers run out: 65,535 rounds of take and give back through the public step, then what is asked of and by the spent program.
 // It writes how many rounds before the last were answered as they must be, and the answers from the last round on, by program.
+
+#![tactic(auto)]
+
 ghost use Rattle.std.specs.Prelude.{◌≡◌, ◌&&◌, eqb};
 
 use image::IMAGE;

@@ -1,6 +1,9 @@
 // Lines of values as text: read from a part of an input buffer, and written into a lent output or behind what stands in it. A text that
 // does not fit into the output is refused, and leaves it unchanged. Of the public routines only those that append ask something of their
 // caller: that the length with the text can be counted.
+
+#![tactic(auto)]
+
 ghost use Rattle.std.specs.Prelude.{◌≤◌, ◌≡◌, cond, ◌++◌, eqb, length, drop, replicate};
 ghost use Rattle.lists.specs.Lists.{first_index};
 ghost use Rattle.text.specs.Bytes.{same_bytes};
@@ -59,7 +62,7 @@ pub fn same(a: &[u8], b: &[u8]) -> bool
 }
 
 // The first line of a text: is it the names, and where does it end?
-#[derive(Drop)]
+#[derive(Clone, Copy)]
 pub struct FirstLine {
     pub ok: bool,
     pub end: usize,
@@ -80,7 +83,7 @@ pub fn first_line(text: &[u8], names: &[u8]) -> FirstLine
 }
 
 // A value and where it ends, or another form.
-#[derive(Drop)]
+#[derive(Clone, Copy)]
 pub enum Read {
     Number { value: u16, end: usize },
     Other,

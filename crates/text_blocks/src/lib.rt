@@ -1,4 +1,7 @@
 // The lines of saved tables in their order, block by block: the lines of one kind of one program, by number.
+
+#![tactic(auto)]
+
 ghost use Rattle.std.specs.Prelude.{◌≤◌, ◌<◌, ◌≡◌, true, cond};
 ghost use Rattle.lists.specs.Parts.{joined};
 ghost use Rattle.tables.specs.Names.{no_name, is_none};

@@ -1,4 +1,7 @@
 // The dock names of loaded grants. A saved text has no column for them: each is found by the walk from the grant to the head of its chain.
+
+#![tactic(auto)]
+
 ghost use Rattle.std.specs.Prelude.{◌<◌, ◌≡◌, true, length, set};
 ghost use Rattle.tables.specs.Lookup.{lookup};
 ghost use Rattle.tables.specs.Chains.{parent_by, parent_of, end_of, chain_head};

@@ -1,5 +1,8 @@
 // The lines of a saved text put into the tables' image one after the other: whether there is room for the next one of its sort, and the place
 // that it fills.
+
+#![tactic(auto)]
+
 ghost use Rattle.std.specs.Prelude.{◌+◌, ◌<◌, ◌≡◌, true, cond, List, ◌∷◌, ltb, eqb, length, get_or};
 ghost use Rattle.tables.specs.Names.{no_name};
 ghost use Rattle.image.specs.Image.{is_image};

@@ -1,4 +1,7 @@
 // The taken grants of the ward report, each with its loans behind it, and the sum of their sheets.
+
+#![tactic(auto)]
+
 ghost use Rattle.std.specs.Prelude.{◌+◌, ◌<◌, ◌≤◌, ◌≡◌};
 ghost use Rattle.image.specs.Image.{decode};
 ghost use Rattle.report.specs.Rows.{taken_grants};
@@ -8,7 +11,7 @@ ghost use Rattle.text_grants.specs.Grants.{taken_of, sheets_of, Ready, Puts};
 use image_places::PROGRAM;
 
 // How far the text has come, and the sheets of the depth 0 lines in it.
-#[derive(Drop)]
+#[derive(Clone, Copy)]
 pub struct Printing {
     pub end: usize,
     pub sheets: u16,

@@ -1,4 +1,7 @@
 // Loading: the tables of a saved text, read in one pass straight into the places of the lent image.
+
+#![tactic(auto)]
+
 ghost use Rattle.std.specs.Prelude.{◌+◌, ◌≤◌, ◌<◌, ◌≡◌, true, ltb, length, get_or, drop, replicate};
 ghost use Rattle.lists.specs.Lists.{all};
 ghost use Rattle.image.specs.Layout.{image_size};

@@ -1,5 +1,8 @@
 // A ticket's line of the ward report, followed by its loans, each of which is again a ticket. Places that were printed are marked, and a
 // marked one is passed over; so the walk ends.
+
+#![tactic(auto)]
+
 ghost use Rattle.std.specs.Prelude.{◌/◌, ◌≡◌};
 ghost use Rattle.image.specs.Image.{decode};
 ghost use Rattle.image_read.specs.Places.{tickets_in};

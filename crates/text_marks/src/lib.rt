@@ -1,4 +1,7 @@
 // Marks of the 256 places of tickets, in lent bytes: a bit for each place, tested and set by a mask.
+
+#![tactic(auto)]
+
 ghost use Rattle.std.specs.Prelude.{◌%◌, ◌^◌, ◌<◌, ◌≡◌, length, replicate};
 ghost use Rattle.text_marks.specs.Marks.{mark_bytes, marked_in, with_mark};
 

@@ -1,5 +1,8 @@
 // Entries noted at the places of their grants, and by these notes the numbers of a program's grants that have an entry: so entries come by name
 // and are never sorted.
+
+#![tactic(auto)]
+
 ghost use Rattle.std.specs.Prelude.{◌<◌, ◌≡◌, replicate};
 ghost use Rattle.image.specs.Image.{decode};
 ghost use Rattle.image_read.specs.Places.{tickets_in};

@@ -1,5 +1,8 @@
 // The ward report: the names, each taken grant with its loans behind it, the sheets taken and free. It is measured first, where the output
 // might be too short for it.
+
+#![tactic(auto)]
+
 ghost use Rattle.std.specs.Prelude.{◌≡◌, leb, length, replicate};
 ghost use Rattle.image.specs.Image.{decode};
 ghost use Rattle.text.specs.Appending.{Appends};

@@ -1,4 +1,7 @@
 // A line of the saved text: read and tested by itself, its place in the order of lines, and written.
+
+#![tactic(auto)]
+
 ghost use Rattle.std.specs.Prelude.{◌≡◌, true, ◌||◌, eqb};
 ghost use Rattle.lists.specs.Tests.{between};
 ghost use Rattle.tables.specs.Names.{is_program};
@@ -115,7 +118,7 @@ pub fn row_ok(r: Row) -> bool
 // ---- read
 
 // A row, and whether its line has the form of one.
-#[derive(Drop)]
+#[derive(Clone, Copy)]
 pub struct RowRead {
     pub ok: bool,
     pub row: Row,

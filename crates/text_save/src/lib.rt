@@ -1,4 +1,7 @@
 // The tables saved as text: the names, then the lines in their order. The text is measured first, where the output might be too short for it.
+
+#![tactic(auto)]
+
 ghost use Rattle.std.specs.Prelude.{◌≡◌, leb, length};
 ghost use Rattle.image.specs.Image.{decode};
 ghost use Rattle.text.specs.Appending.{Appends};

@@ -1,5 +1,8 @@
 // The trace: a text of requests in, a text of answers out; from an emptied dock of its own, or over the one that a host lends. Every request
 // leaves tables in order, so that no line pays for a test of that.
+
+#![tactic(auto)]
+
 ghost use Rattle.std.specs.Prelude.{◌<◌, ◌≡◌, ◌&&◌, cond, leb, eqb, length, get_or, drop};
 ghost use Rattle.text.specs.Reading.{lines};
 ghost use Rattle.text.specs.Writing.{Writes};
@@ -28,7 +31,7 @@ const LINE_END: u8 = 10;
 const COLUMNS: usize = REQUEST + 1;
 
 // What a line asks for.
-#[derive(Drop)]
+#[derive(Clone, Copy)]
 pub struct Asked {
     pub formed: bool,
     pub request: Request,

@@ -1,4 +1,7 @@
 // The trace program: the requests of standard input in, their answers out to standard output.
+
+#![tactic(auto)]
+
 ghost use Rattle.std.specs.Prelude.{◌≤◌, ◌≡◌, length, take};
 ghost use Rattle.trace_texts.specs.Trace.{trace_room, trace};
 

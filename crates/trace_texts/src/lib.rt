@@ -1,1 +1,3 @@
 // The texts of the trace program: definitions and computed cases only.
+
+#![tactic(auto)]

@@ -1,0 +1,8 @@
+-- The chart's answer is what `within` says, by Chart.
+use mathlib.Core.Path.{◌∙◌}
+use borrow.Author.Rules.{rules}
+use Rattle.rights.proofs.Chart.{charted_is_within}
+use Rattle.rights.proofs.Rights.contains.Goals as goal
+
+pub returns : goal.returns
+returns c = c.charted.ensures ∙ charted_is_within c.args.asked.bits c.args.self.bits
