@@ -13,11 +13,11 @@ module _ (parent : Name → Name) where
   pub record Counted (n : Name) (count : ℕ) (up : Name) : Type 0 where
     pub low : count ≤ 64
     pub at : Name
-    pub parent_of_lem : up ≡ parent at
+    pub parent_of : up ≡ parent at
     pub links : links_of 64 parent n ≡ count + links_of (64 - count) parent at
 
   pub none_counted : (n up : Name) → up ≡ parent n → Counted n 0 up
-  none_counted n up e = record { low = omega arith; at = n; parent_of_lem = e; links = omega arith }
+  none_counted n up e = record { low = omega arith; at = n; parent_of = e; links = omega arith }
 
   module _ (n : Name) (count : ℕ) (up : Name) (so : Counted n count up) where
     ends_with : links_of (64 - count) parent so.at ≡ 0 → count ≡ links_of 64 parent n
@@ -37,7 +37,7 @@ module _ (parent : Name → Name) where
     one_more z low next e = record {
       low = omega arith;
       at = up;
-      parent_of_lem = e;
+      parent_of = e;
       links =
           so.links
           ∙ ap (λ (k : ℕ). count + k)

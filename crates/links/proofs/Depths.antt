@@ -1,8 +1,14 @@
 -- How far chains of loans go: 31 links are reached.
 use Prim.Native.Nat.{ℕ, suc, ◌+◌, ◌*◌, ◌/◌, ◌%◌}
-use mathlib.Core.List.{List, ◌∷◌}
+use mathlib.Core.Path.{refl}
+use mathlib.Core.List.{List, ◌∷◌, replicate}
 use Rattle.lists.specs.Parts.{tabulate}
-use Rattle.machine.proofs.CaseLines.{Line, line, gives, through}
+use Rattle.machine.specs.Sequence.{Sent}
+use Rattle.machine.proofs.CaseLines.{Line, line, gives}
+
+-- a line as a sequence has it
+abbrev pub sent : Line → Sent
+sent l = record { request = l.request; sheet = replicate 64 l.fill; whole = refl }
 
 -- the i-th loan: a program lends the ticket that it was lent to the next one on the pad. In each round of eight every program gets a grant
 -- and a recall, and four rounds fill the pad

@@ -26,12 +26,11 @@ use Rattle.machine.specs.Access.{access_refusal, after_read, after_write}
 use Rattle.machine.specs.Step.{own_refusal, request_refusal, lengths_ok, refusal, after_own, drop_head, outcome, step, serve}
 use Rattle.machine.specs.Empty.{empty_dock}
 use Rattle.machine.specs.Sequence.{Sent, enter, after}
-use Rattle.machine.proofs.CaseLines.{sent}
 use Rattle.preservation.proofs.OrderPassesTest.{order_passes_test}
 use Rattle.preservation.specs.InOrder.{DockOk}
 use Rattle.preservation.proofs.StepKeepsOrder.{step_is_serve, serve_keeps_dock, sequence_keeps, empty_dock_ok}
 use Rattle.links.specs.Links.{most_links, MostReached}
-use Rattle.links.proofs.Depths.{lent_on}
+use Rattle.links.proofs.Depths.{sent, lent_on}
 
 -- ---- the tables that 32 requests leave of an emptied dock; they are in order, as after every sequence
 -- a sequence without the order test, which always passes: what is computed

@@ -26,6 +26,7 @@ module _ (t : Tables) (now : InOrder t) where
       let p = flat (rows_from left t (depth + 1)) r (loans_of t n) i in
       let z : suc depth ≡ depth + 1 = omega arith in
       row_lent left (depth + 1) p.from (subst (λ (d : ℕ). L p.from d) z (loan l p.member)) r p.part
+  row_lent zero depth n l r x'' = elim x'' [ ]
 
   rows_lent : (r : Row) → In r (rows t) → L r.name r.depth
   unfolding rows
@@ -47,6 +48,7 @@ module _ (t : Tables) (now : InOrder t) where
       let p = flat (rows_from left t (depth + 1)) (row_of d n) (loans_of t top) j in
       later (in_flat (rows_from left t (depth + 1)) (row_of (d + 1) m) p.from (loans_of t top) p.member
       (next left (depth + 1) p.from n m d i (omega arith) p.part))
+  next zero depth top n m d i b x3 = elim x3 [ ]
 
   lent_row : {n : Name} {d : ℕ} → L n d → In (row_of d n) (rows t)
   unfolding rows rows_from
@@ -86,6 +88,7 @@ module _ (t : Tables) (now : InOrder t) where
       let p = flat (rows_from left t (depth + 1)) r (loans_of t n) i in
       let u = row_under left (depth + 1) p.from r p.part in
       record { steps = suc u.steps; way = above p.member u.way }
+  row_under zero depth n r x' = elim x' [ ]
 
   name_under : (left depth : ℕ) (n c : Name) → In c (map (λ (r : Row). r.name) (rows_from left t depth n)) → Under n c
   name_under left depth n c i =

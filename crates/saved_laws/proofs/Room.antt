@@ -87,6 +87,7 @@ no_second before (r ∷ rs) e y b (first q) l k t =
     none_before before y b (subst (λ (z : Row). may_follow before z ≡ true) (sym q) (and_l (may_follow before r) (all_follow (r ∷ before) rs) e)) l k t
 no_second before (r ∷ rs) e y b (later m) l k t =
     no_second (r ∷ before) rs (and_r (may_follow before r) (all_follow (r ∷ before) rs) e) y b m l (later k) t
+no_second before [] e y b x5 l k t = elim x5 [ ]
 
 pub one_last : (before rs : List Row) → all_follow before rs ≡ true → (x y : Row) → In x rs → In y rs → is_last_row x ≡ true → is_last_row y ≡ true
     → last_of_program y.pad y.program x ≡ true → last_of_program x.pad x.program y ≡ true → x ≡ y
@@ -98,3 +99,4 @@ one_last before (r ∷ rs) e x y (later a) (first b) l n s t =
     absurd (no_second (r ∷ before) rs (and_r (may_follow before r) (all_follow (r ∷ before) rs) e) x y a l (first b) t)
 one_last before (r ∷ rs) e x y (later a) (later b) l n s t =
     one_last (r ∷ before) rs (and_r (may_follow before r) (all_follow (r ∷ before) rs) e) x y a b l n s t
+one_last before [] e x y x9 _ l n s t = elim x9 [ ]

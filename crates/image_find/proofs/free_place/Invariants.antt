@@ -1,0 +1,15 @@
+-- The search stands at a place of the program: what is free is found from there on.
+use Prim.Native.Nat.{◌-◌, ◌≤◌}
+use native.Mathlib.Omega.{arith}
+use mathlib.Core.Path.{sym, ap, ◌∙◌}
+use mathlib.Core.Bool.{not}
+use borrow.Author.Rules.{rules}
+use Rattle.image_find.proofs.Steps.{FreeSearch, free_hit, free_miss, free_none}
+use Rattle.image_find.proofs.free_place.Given as goal
+
+
+abbrev pub invariant-loop-place : goal.invariant-loop-place
+invariant-loop-place l = (l.place ≤ 8) × FreeSearch l.image l.program l.place
+
+abbrev pub decreases-loop-place : goal.decreases-loop-place
+decreases-loop-place l = 8 - l.place

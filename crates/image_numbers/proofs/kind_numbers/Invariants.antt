@@ -1,0 +1,24 @@
+-- After i turns the first i places hold their numbers.
+use Prim.Native.Nat.{ℕ, ◌+◌, ◌-◌, ◌*◌, ◌≤◌}
+use native.Mathlib.Omega.{arith}
+use mathlib.Core.List.{List}
+use lib.Dec.{eqb}
+use lib.ListN.{get_or}
+use borrow.Author.Rules.{rules}
+use Rattle.lists.proofs.Laid.{Laid, laid_none, one_more}
+use Rattle.lists.proofs.PartLaws.{tabulated}
+use Rattle.tables.specs.Names.{free}
+use Rattle.image.specs.Image.{kind_number}
+use Rattle.image_read.specs.Places.{tickets_in}
+use Rattle.image_numbers.specs.Numbers.{number_if, numbers_in}
+use Rattle.image_numbers.proofs.kind_numbers.Given as goal
+
+
+abbrev pub wanted : List ℕ → ℕ → ℕ → ℕ → ℕ
+wanted image program kind j = number_if (λ k. eqb (kind_number k.kind) kind) (get_or (tickets_in image) (8 * program + j) free)
+
+abbrev pub invariant-loop-i : goal.invariant-loop-i
+invariant-loop-i l = (l.i ≤ 8) × Laid 0 8 (wanted l.image l.program l.kind) l.i l.numbers
+
+abbrev pub decreases-loop-i : goal.decreases-loop-i
+decreases-loop-i l = 8 - l.i

@@ -1,0 +1,19 @@
+-- The first i places have been stored.
+use Prim.Native.Nat.{ℕ, ◌+◌, ◌-◌, ◌*◌, ◌/◌, ◌≤◌}
+use native.Mathlib.Omega.{arith}
+use mathlib.Core.Path.{sym, ap, subst, ◌∙◌}
+use borrow.Author.Rules.{rules}
+use Rattle.lists.proofs.Laid.{Laid, one_more}
+use Rattle.lists.proofs.PartLaws.{tabulated}
+use Rattle.image.specs.Image.{decode}
+use Rattle.image_find.proofs.Laws.{flattened}
+use Rattle.image_pads.specs.Places.{on_pad, up_of, ups_of}
+use Rattle.image_pads.proofs.Places.{up_fits}
+use Rattle.image_pads.proofs.write_ups.Given as goal
+
+
+abbrev pub invariant-loop-i : goal.invariant-loop-i
+invariant-loop-i l = (l.i ≤ 64) × Laid 0 64 (λ j. up_of l.numbers (j / 8) (on_pad (decode l.image) l.pad j)) l.i l.to
+
+abbrev pub decreases-loop-i : goal.decreases-loop-i
+decreases-loop-i l = 64 - l.i

@@ -1,0 +1,20 @@
+-- After i turns the first i places hold the tickets that the bytes say.
+use Prim.Native.Nat.{◌-◌, ◌*◌, ◌≤◌}
+use native.Mathlib.Omega.{arith}
+use mathlib.Core.Path.{ap, ◌∙◌}
+use lib.ListN.{drop}
+use borrow.Author.Rules.{rules}
+use Rattle.lists.proofs.Front.{rest_part}
+use Rattle.lists.proofs.Laid.{Laid, laid_none, one_more}
+use Rattle.lists.proofs.PartLaws.{tabulated}
+use Rattle.tables.specs.Names.{free}
+use Rattle.image.specs.Layout.{ticket_size}
+use Rattle.image.specs.Image.{read_ticket, read_program}
+use Rattle.image_read.proofs.program_in.Given as goal
+
+
+abbrev pub invariant-loop-i : goal.invariant-loop-i
+invariant-loop-i l = (l.i ≤ 8) × Laid free 8 (λ j. read_ticket (drop (ticket_size * j) l.bytes)) l.i l.tickets
+
+abbrev pub decreases-loop-i : goal.decreases-loop-i
+decreases-loop-i l = 8 - l.i

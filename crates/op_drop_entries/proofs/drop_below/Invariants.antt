@@ -1,0 +1,31 @@
+-- The outer loop is at a turn of the queue (`Going`), the inner one at a place of the entries (`Turning`): from what held where a loop began
+-- follows what holds now, whatever the image was before.
+use Prim.Native.Nat.{ℕ, ◌-◌, ◌≤◌, ◌<◌}
+use native.Mathlib.Omega.{arith}
+use mathlib.Core.Path.{◌≡◌, refl, sym, ◌∙◌}
+use mathlib.Core.Bool.{true}
+use mathlib.Core.List.{List}
+use lib.ListN.{get_or}
+use borrow.Author.Rules.{rules}
+use Rattle.tables.specs.Names.{no_name}
+use Rattle.image.specs.Image.{is_image}
+use Rattle.image.proofs.RoundTrip.{image_whole}
+use Rattle.op_drop_entries.proofs.InImage.{Going, going_more, nothing_gone, going_begins, going_ends}
+use Rattle.op_drop_entries.proofs.InImage.{Turning, turning_none, turning_kept, turning_room, turning_gone}
+use Rattle.op_drop_entries.proofs.drop_below.Given as goal
+
+
+abbrev pub invariant-loop-i : goal.invariant-loop-i
+invariant-loop-i l =
+    (is_image l.image ≡ true) × (l.tail ≤ 256)
+    × ((bytes : List ℕ) → Going bytes l.at l.initial.image l.initial.queue l.initial.tail l.head → l.head < l.initial.tail → l.n ≡ get_or l.initial.queue l.head no_name → Turning bytes l.at l.image l.queue l.tail l.head l.n l.i)
+
+abbrev pub decreases-loop-i : goal.decreases-loop-i
+decreases-loop-i l = 256 - l.i
+
+abbrev pub invariant-loop-head : goal.invariant-loop-head
+invariant-loop-head l =
+    (is_image l.image ≡ true) × (l.tail ≤ 256) × ((bytes : List ℕ) → Going bytes l.at l.initial.image l.initial.queue l.initial.tail l.initial.head → Going bytes l.at l.image l.queue l.tail l.head)
+
+abbrev pub decreases-loop-head : goal.decreases-loop-head
+decreases-loop-head l = 256 - l.head

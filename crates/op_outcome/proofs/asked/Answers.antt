@@ -1,0 +1,9 @@
+use mathlib.Core.Path.{sym, ap, ◌∙◌}
+use borrow.Author.Rules.{rules}
+use Rattle.tables.specs.Lookup.{lookup}
+use Rattle.image.specs.Image.{decode}
+use Rattle.op_outcome.proofs.asked.Goals as goal
+
+pub returns : goal.returns
+returns c =
+    sym (c.ticket.ensures ∙ ap (lookup (decode c.args.image.now)) c.asked_name-n.ensures)

@@ -1,0 +1,14 @@
+-- After i turns the first i bytes are 0, the rest as they were.
+use Prim.Native.Nat.{◌-◌, ◌≤◌}
+use native.Mathlib.Omega.{arith}
+use mathlib.Core.Path.{◌≡◌, refl, ◌∙◌}
+use lib.ListN.{length, replicate, length-set}
+use Rattle.lists.proofs.Front.{front, front_none, fill_more, fill_end}
+use Rattle.op_sheets.proofs.clear.Given as goal
+
+
+abbrev pub invariant-loop-i : goal.invariant-loop-i
+invariant-loop-i l = (l.i ≤ length l.initial.s) × ((length l.s ≡ length l.initial.s) × (l.s ≡ front l.i (replicate (length l.initial.s) 0) l.initial.s))
+
+abbrev pub decreases-loop-i : goal.decreases-loop-i
+decreases-loop-i l = length l.initial.s - l.i

@@ -1,0 +1,28 @@
+-- After i turns the first i children have passed, and the places of their parents are written.
+use Prim.Native.Nat.{ℕ, ◌-◌, ◌≤◌, ◌<◌}
+use native.Mathlib.Omega.{arith}
+use mathlib.Core.Path.{◌≡◌, sym, ap, subst, ◌∙◌}
+use mathlib.Core.Bool.{true}
+use lib.ListN.{length, get_or, length-replicate}
+use borrow.Author.Count.{below_more}
+use borrow.Author.Rules.{rules}
+use borrow.Author.Tests.{not-true, not-false}
+use Rattle.lists.proofs.Tests.{no_true}
+use Rattle.tables.specs.Kinds.{is_child}
+use Rattle.tables.specs.Names.{free}
+use Rattle.image_read.specs.Places.{tickets_in}
+use Rattle.image_read.proofs.Places.{tickets_long}
+use Rattle.order_lists.proofs.Laws.{listed-allAt, listed_broken, Filled, filled_none, filled_at, filled_end}
+use Rattle.order_children.specs.Parts.{child_ok, children_ok}
+use Rattle.order_children.proofs.Children.{up_of, no_child, no_child_up, no_parent, by_parent, parent_up}
+use Rattle.order_children.proofs.children_ok.Given as goal
+
+
+abbrev pub invariant-loop-i : goal.invariant-loop-i
+invariant-loop-i l =
+    (l.i ≤ length l.children)
+    × (((j : ℕ) → j < l.i → child_ok (tickets_in l.image) l.numbers (get_or l.children j 0) (get_or (tickets_in l.image) (get_or l.children j 0) free) ≡ true)
+    × Filled 256 256 (λ p. up_of l.numbers (get_or (tickets_in l.image) p free)) l.children l.i l.up)
+
+abbrev pub decreases-loop-i : goal.decreases-loop-i
+decreases-loop-i l = length l.children - l.i

@@ -1,0 +1,14 @@
+-- The taken grants with a number up to `after` are printed, and their sheets added.
+use Prim.Native.Nat.{◌-◌}
+use native.Mathlib.Omega.{arith}
+use borrow.Author.Rules.{rules}
+use Rattle.text_grants.proofs.Grants.{last, Going, going_none, going_end, going_rises, going_given, going_sheets, going_fits, going_more}
+use Rattle.text_grants.proofs.put_program.Given as goal
+
+
+abbrev pub invariant-loop-i : goal.invariant-loop-i
+invariant-loop-i l =
+    Going l.image l.initial.marks l.initial.out (record { l.end = l.initial.end; l.sheets = l.initial.sheets }) l.program l.numbers l.marks l.out l.end l.sheets l.after l.i
+
+abbrev pub decreases-loop-i : goal.decreases-loop-i
+decreases-loop-i l = last l.image l.program - l.after

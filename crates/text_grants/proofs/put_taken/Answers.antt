@@ -1,0 +1,33 @@
+-- The taken grants of the programs below `program` are printed.
+use Prim.Native.Nat.{◌-◌}
+use borrow.Author.Rules.{rules}
+use Rattle.text_grants.proofs.Programs.{Round, round_none, round_end, round_ready, round_few, round_more}
+use Rattle.text_grants.proofs.put_taken.Goals as goal
+
+pub loop-program-init : goal.loop-program-init
+loop-program-init c =
+    let a = c.args in
+    round_none a.image.now a.marks.now a.out.now a.at
+
+pub put_program-printing-requires : goal.put_program-printing-requires
+put_program-printing-requires c =
+    let round = c.loop-program.invariant in
+    let low = c.loop-program-test.true in
+    (round_ready _ _ _ _ _ _ _ _ round c.requires low, (low, round_few _ _ _ _ _ _ _ _ round c.requires low))
+
+pub loop-program-preserved : goal.loop-program-preserved
+loop-program-preserved c =
+    let p = c.put_program-printing in
+    round_more _ _ _ _ _ _ _ _ c.loop-program.invariant c.requires c.loop-program-test.true _ _ _ p.auto.1.0 p.auto.1.1.0 p.ensures
+
+pub shape_of-marks : goal.shape_of-marks
+shape_of-marks c =
+    c.loop-program.invariant.size
+
+pub shape_of-out : goal.shape_of-out
+shape_of-out c =
+    c.loop-program.invariant.long
+
+pub returns : goal.returns
+returns c =
+    round_end _ _ _ _ _ _ _ _ c.loop-program.invariant c.requires c.loop-program-test.false

@@ -1,0 +1,34 @@
+-- After i turns the first i numbers are 0, the rest as they were.
+use Prim.Native.Nat.{◌-◌, ◌≤◌}
+use native.Mathlib.Omega.{arith}
+use mathlib.Core.Path.{◌≡◌, refl, ◌∙◌}
+use lib.ListN.{length, replicate, length-set}
+use Rattle.lists.proofs.Front.{front, front_none, fill_more, fill_end}
+use Rattle.text_marks.proofs.clear.Goals as goal
+
+pub loop-i-init : goal.loop-i-init
+loop-i-init c = (omega arith, (refl, front_none _ _))
+
+pub bounds-marks-i : goal.bounds-marks-i
+bounds-marks-i c = omega arith
+
+pub overflow_add-i : goal.overflow_add-i
+overflow_add-i c = omega arith
+
+pub loop-i-smaller : goal.loop-i-smaller
+loop-i-smaller c = omega arith
+
+pub loop-i-preserved : goal.loop-i-preserved
+loop-i-preserved c =
+    let marks₀ = c.args.marks.now in
+    let l = c.loop-i in
+    (omega arith, (simp length-set (omega arith), rw l.invariant.1.1 (fill_more l.i (length marks₀) 0 marks₀ (omega arith))))
+
+pub shape_of-marks : goal.shape_of-marks
+shape_of-marks c = omega arith
+
+pub returns : goal.returns
+returns c =
+    let marks₀ = c.args.marks.now in
+    let l = c.loop-i in
+    l.invariant.1.1 ∙ fill_end l.i (length marks₀) 0 marks₀ (omega arith) refl

@@ -1,0 +1,15 @@
+-- After i turns the first i numbers are 0, the rest as they were.
+use Prim.Native.Nat.{◌-◌, ◌≤◌}
+use native.Mathlib.Omega.{arith}
+use mathlib.Core.Path.{◌≡◌, refl, ◌∙◌}
+use lib.ListN.{length, replicate, length-set}
+use Rattle.lists.proofs.Front.{front, front_none, fill_more, fill_end}
+use Rattle.text_marks.proofs.clear.Given as goal
+
+
+abbrev pub invariant-loop-i : goal.invariant-loop-i
+invariant-loop-i l =
+    (l.i ≤ length l.initial.marks) × ((length l.marks ≡ length l.initial.marks) × (l.marks ≡ front l.i (replicate (length l.initial.marks) 0) l.initial.marks))
+
+abbrev pub decreases-loop-i : goal.decreases-loop-i
+decreases-loop-i l = length l.initial.marks - l.i

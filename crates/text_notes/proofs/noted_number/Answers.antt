@@ -1,0 +1,22 @@
+use mathlib.Core.Path.{sym, ap, ◌∙◌}
+use borrow.Author.Rules.{rules}
+use borrow.Author.Tests.{lt-ltb, le-ltb}
+use Rattle.tables.specs.declared.Ticket.{Ticket}
+use Rattle.image_numbers.specs.Numbers.{number_if}
+use Rattle.text_notes.proofs.noted_number.Goals as goal
+
+pub returns-then-notes-place-ge-NO_PLACE : goal.returns-then-notes-place-ge-NO_PLACE
+unfolding number_if
+returns-then-notes-place-ge-NO_PLACE c =
+    let p = c.requires.1 in
+    rw (sym (p.0.has c.args.place p.1) ∙ le-ltb _ 256 c.if-notes-place-ge-NO_PLACE.true)
+
+pub ticket_at-k-requires : goal.ticket_at-k-requires
+ticket_at-k-requires c =
+    (c.requires.0.long, c.requires.1.1)
+
+pub returns : goal.returns
+unfolding number_if
+returns c =
+    let p = c.requires.1 in
+    rw (sym (p.0.has c.args.place p.1) ∙ lt-ltb _ 256 c.if-notes-place-ge-NO_PLACE.false) (ap (λ (k : Ticket). k.number) c.ticket_at-k.ensures)
