@@ -27,7 +27,7 @@ pub slice_bounds-hung_ok-end : goal.slice_bounds-hung_ok-end
 slice_bounds-hung_ok-end c =
     let noting = c.note_entries-n in
     let listed = noting.ensures.1 (not-false _ c.if-not-n.false) in
-    sym (length-take-le noting.result.hung noting.new.1.1.1.1.0 (omega (arith, listed.under.most, noting.auto.1.1.1.1.0)))
+    sym (length-take-le noting.result.hung noting.new.hung (omega (arith, listed.under.most, noting.auto.hung)))
 
 pub hung_ok-requires : goal.hung_ok-requires
 hung_ok-requires c =
@@ -40,7 +40,7 @@ hung_ok-requires c =
         (
           (noting.ensures.0.noted good).long,
           listed_front _ _ _ _ _ _ listed.under
-              (omega (arith, listed.under.most, noting.auto.1.1.1.1.0)),
+              (omega (arith, listed.under.most, noting.auto.hung)),
         ),
       ),
     )
@@ -62,13 +62,13 @@ pub slice_bounds-roots_apart-end : goal.slice_bounds-roots_apart-end
 slice_bounds-roots_apart-end c =
     let noting = c.note_entries-n in
     let listed = noting.ensures.1 (not-false _ c.if-not-n.false) in
-    sym (length-take-le noting.result.roots noting.new.1.1.1.0 (omega (arith, listed.top.most, noting.auto.1.1.1.0)))
+    sym (length-take-le noting.result.roots noting.new.roots (omega (arith, listed.top.most, noting.auto.roots)))
 
 pub roots_apart-requires : goal.roots_apart-requires
 roots_apart-requires c =
     let noting = c.note_entries-n in
     let listed = noting.ensures.1 (not-false _ c.if-not-n.false) in
-    (c.requires.0, listed_front _ _ _ _ _ _ listed.top (omega (arith, listed.top.most, noting.auto.1.1.1.0)))
+    (c.requires.0, listed_front _ _ _ _ _ _ listed.top (omega (arith, listed.top.most, noting.auto.roots)))
 
 pub returns-then-not-roots_apart : goal.returns-then-not-roots_apart
 returns-then-not-roots_apart c =

@@ -9,9 +9,6 @@ use Rattle.image_read.proofs.Places.{entries_long}
 use Rattle.order_entries.proofs.Linking.{SoFar, linked_none, linked_lost, linked_bad, linked_more, linked_end}
 use Rattle.order_entries.proofs.link_entries.Goals as goal
 
-blank : (s : tie.Start invariant-loop decreases-loop) → length s.args.up.now ≡ 256
-blank s = ap length s.requires.1.1.1.1 ∙ length-replicate {A = ℕ} 256 256
-
 pub loop-i-init : goal.loop-i-init
 loop-i-init c =
     (omega arith, linked_none _ _ _ _ _ c.requires.1.1.1.1)
@@ -22,7 +19,7 @@ entry_at-e-requires c =
 
 pub shape_of-up-then-q-ge256 : goal.shape_of-up-then-q-ge256
 shape_of-up-then-q-ge256 c =
-    c.loop-i.invariant.1.ups.long ∙ sym (blank c13)
+    c.loop-i.invariant.1.ups.long ∙ sym (ap length c.requires.1.1.1.1 ∙ length-replicate {A = ℕ} 256 256)
 
 pub returns-then-q-ge256 : goal.returns-then-q-ge256
 returns-then-q-ge256 c =
@@ -31,7 +28,7 @@ returns-then-q-ge256 c =
 
 pub shape_of-up-then-not-parent_entry_ok : goal.shape_of-up-then-not-parent_entry_ok
 shape_of-up-then-not-parent_entry_ok c =
-    c.loop-i.invariant.1.ups.long ∙ sym (blank c16)
+    c.loop-i.invariant.1.ups.long ∙ sym (ap length c.requires.1.1.1.1 ∙ length-replicate {A = ℕ} 256 256)
 
 pub returns-then-not-parent_entry_ok : goal.returns-then-not-parent_entry_ok
 returns-then-not-parent_entry_ok c =
@@ -60,7 +57,7 @@ loop-i-preserved c =
 
 pub shape_of-up : goal.shape_of-up
 shape_of-up c =
-    c.loop-i.invariant.1.ups.long ∙ sym (blank c7)
+    c.loop-i.invariant.1.ups.long ∙ sym (ap length c.requires.1.1.1.1 ∙ length-replicate {A = ℕ} 256 256)
 
 pub returns : goal.returns
 returns c =

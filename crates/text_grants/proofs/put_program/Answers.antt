@@ -31,7 +31,7 @@ loop-i-preserved c =
     let p = c.put_ticket-end in
     going_more _ _ _ _ _ _ _ _ _ _ _ _ c.loop-i.invariant c.requires.0 c.requires.1.0 c.requires.1.1 c.loop-i-test.true _
     c.next_above-i-in-loop-i.ensures _ c.count_at-sheets.ensures _ _ _
-    p.auto.1.0 p.auto.1.1.0 p.ensures
+    p.auto.marks p.auto.out p.ensures
 
 pub shape_of-marks : goal.shape_of-marks
 shape_of-marks c =

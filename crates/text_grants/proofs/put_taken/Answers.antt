@@ -18,7 +18,7 @@ put_program-printing-requires c =
 pub loop-program-preserved : goal.loop-program-preserved
 loop-program-preserved c =
     let p = c.put_program-printing in
-    round_more _ _ _ _ _ _ _ _ c.loop-program.invariant c.requires c.loop-program-test.true _ _ _ p.auto.1.0 p.auto.1.1.0 p.ensures
+    round_more _ _ _ _ _ _ _ _ c.loop-program.invariant c.requires c.loop-program-test.true _ _ _ p.auto.marks p.auto.out p.ensures
 
 pub shape_of-marks : goal.shape_of-marks
 shape_of-marks c =
