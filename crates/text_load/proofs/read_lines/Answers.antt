@@ -95,7 +95,7 @@ overflow_add-next c =
     let formed = passed c.read_row-read.ensures.ok c.if-not-read.false in
     let row = c.read_row-read.ensures.row formed in
     let o = row_in_form _ _ row formed in
-    omega (arith, c.key-key.ensures, key_low _ o (omega (arith, c.read_row-read.type-inv)))
+    omega (arith, c.key-key.ensures, key_low _ o (omega (arith, c.read_row-read.type_inv)))
 
 pub overflow_add-from : goal.overflow_add-from
 overflow_add-from c =
@@ -115,8 +115,8 @@ loop-from-preserved c =
     (passed c.has_room.ensures (ap not c.if-not-has_room.false)) in
     let put = c.put_row.ensures in
     goes_on c.args.text.now c.args.start _ _ _ _ g _ c.find.ensures c.loop-from-test.true _ row formed o m _ _ _ c.key-key.ensures
-    (put.0 g.before g.tallied)
-    (put.1 g.before g.tallied g.filled)
+    (put.tallied g.before g.tallied)
+    (put.filled g.before g.tallied g.filled)
 
 pub all_programs-requires : goal.all_programs-requires
 all_programs-requires c = c.loop-from.invariant.tallied.long

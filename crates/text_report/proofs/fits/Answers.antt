@@ -21,4 +21,4 @@ returns-then-room-ge-ROOM c =
 pub returns : goal.returns
 returns c =
     let put = c.put_and_clear-total.ensures in
-    record { value = ap (λ (n : ℕ). leb n c.args.room) (measured _ _ _ _ put.0); marks_after = put.1 }
+    record { value = ap (λ (n : ℕ). leb n c.args.room) (measured _ _ _ _ put.appends); marks_after = put.marks_after }

@@ -40,13 +40,13 @@ returns-then-not-fits c =
     let b = report_buffers a.tables.now a.scratch.now a.output.now in
     let good = tables_ok_lem a.tables.now c.image_in_order.ensures (ap not c.if-not-image_in_order.false) in
     let long = sym c.clear.auto.marks ∙ c.if-scratch-ne-MARKS.false in
-    let zeros = c.fits2.ensures.1 ∙ ap (λ (n : ℕ). replicate {A = ℕ} n 0) (sym long) in
-    too_short b _ zeros c.if-tables-ne-IMAGE.false good long (sym c.fits2.ensures.0 ∙ c.if-not-fits.true)
+    let zeros = c.fits.ensures.marks_after ∙ ap (λ (n : ℕ). replicate {A = ℕ} n 0) (sym long) in
+    too_short b _ zeros c.if-tables-ne-IMAGE.false good long (sym c.fits.ensures.value ∙ c.if-not-fits.true)
 
 pub put_and_clear-requires : goal.put_and_clear-requires
 put_and_clear-requires c =
     let a = c.args in
-    (tested a.tables.now c.image_in_order.ensures (ap not c.if-not-image_in_order.false) c.if-tables-ne-IMAGE.false, c.fits2.ensures.1)
+    (tested a.tables.now c.image_in_order.ensures (ap not c.if-not-image_in_order.false) c.if-tables-ne-IMAGE.false, c.fits.ensures.marks_after)
 
 pub returns : goal.returns
 returns c =
@@ -55,6 +55,6 @@ returns c =
     let good = tables_ok_lem a.tables.now c.image_in_order.ensures (ap not c.if-not-image_in_order.false) in
     let long = sym c.clear.auto.marks ∙ c.if-scratch-ne-MARKS.false in
     let put = c.put_and_clear.ensures in
-    let zeros = put.1 ∙ ap (λ (n : ℕ). replicate {A = ℕ} n 0) (sym long) in
-    let fits = sym c.fits2.ensures.0 ∙ c.if-not-fits.false in
-    whole b _ zeros c.if-tables-ne-IMAGE.false good long fits _ _ put.0
+    let zeros = put.marks_after ∙ ap (λ (n : ℕ). replicate {A = ℕ} n 0) (sym long) in
+    let fits = sym c.fits.ensures.value ∙ c.if-not-fits.false in
+    whole b _ zeros c.if-tables-ne-IMAGE.false good long fits _ _ put.appends

@@ -29,7 +29,7 @@ pub returns-then-not-fits : goal.returns-then-not-fits
 returns-then-not-fits c =
     let a = c.args in
     let good = passed (tables_told a.tables.now c.image_in_order.ensures) (ap not c.if-not-image_in_order.false) in
-    too_short (save_buffers a.tables.now a.output.now) c.if-tables-ne-IMAGE.false good (failed c.fits2.ensures (ap not c.if-not-fits.true))
+    too_short (save_buffers a.tables.now a.output.now) c.if-tables-ne-IMAGE.false good (failed c.fits.ensures (ap not c.if-not-fits.true))
 
 pub put_saved-requires : goal.put_saved-requires
 put_saved-requires c =
@@ -40,5 +40,5 @@ pub returns : goal.returns
 returns c =
     let a = c.args in
     let good = passed (tables_told a.tables.now c.image_in_order.ensures) (ap not c.if-not-image_in_order.false) in
-    let fits = passed c.fits2.ensures (ap not c.if-not-fits.false) in
+    let fits = passed c.fits.ensures (ap not c.if-not-fits.false) in
     whole (save_buffers a.tables.now a.output.now) c.if-tables-ne-IMAGE.false good fits _ _ c.put_saved.ensures

@@ -1,0 +1,62 @@
+-- Before each line `Going` holds.
+use Prim.Native.Nat.{◌+◌, ◌-◌, ◌≤◌}
+use native.Mathlib.Omega.{arith}
+use mathlib.Core.Path.{sym, ◌∙◌}
+use lib.ListN.{length}
+use borrow.Author.Rules.{rules}
+use Rattle.image.proofs.RoundTrip.{image_whole}
+use Rattle.lending.specs.Trace.{dock_of}
+use Rattle.text_trace.proofs.TraceSteps.{Going, begins, ends, end_holds, line_inside, line_bound, next}
+use Rattle.text_trace.proofs.serve_lines.Goals as goal
+
+pub loop-from-init : goal.loop-from-init
+loop-from-init c =
+    let a = c.args in
+    let p = c.requires in
+    begins a.tables.now a.store.now a.input.now a.start a.out.now a.at (λ j. omega (arith, c.slice_known-1.given j)) p.0 p.1.0
+    p.1.1
+
+pub overflow_add-end : goal.overflow_add-end
+overflow_add-end c =
+    omega (arith, line_inside _ _ _ _ _ _ _ _ _ _ _ c.loop-from.invariant _ c.find.ensures c.loop-from-test.true)
+
+pub overflow_add-number : goal.overflow_add-number
+overflow_add-number c =
+    omega (arith, c.loop-from.invariant.counted, c.loop-from-test.true, c.requires.1.0.short)
+
+pub slice_bounds-serve_line-end : goal.slice_bounds-serve_line-end
+slice_bounds-serve_line-end c =
+    omega (arith, line_inside _ _ _ _ _ _ _ _ _ _ _ c.loop-from.invariant _ c.find.ensures c.loop-from-test.true)
+
+pub serve_line-total-requires : goal.serve_line-total-requires
+serve_line-total-requires c =
+    (c.loop-from.invariant.ready, line_bound _ _ _ _ _ _ _ _ _ _ _ c.loop-from.invariant _ c.find.ensures c.loop-from-test.true)
+
+pub overflow_add-from : goal.overflow_add-from
+overflow_add-from c =
+    omega (arith, line_inside _ _ _ _ _ _ _ _ _ _ _ c.loop-from.invariant _ c.find.ensures c.loop-from-test.true, c.requires.1.0.short)
+
+pub loop-from-smaller : goal.loop-from-smaller
+loop-from-smaller c =
+    omega (arith, line_inside _ _ _ _ _ _ _ _ _ _ _ c.loop-from.invariant _ c.find.ensures c.loop-from-test.true)
+
+pub loop-from-preserved : goal.loop-from-preserved
+loop-from-preserved c =
+    let line = c.serve_line-total in
+    next _ _ _ _ _ _ _ _ _ _ _ c.loop-from.invariant _ c.find.ensures c.loop-from-test.true _ _ _ _ line.ensures.appends line.ensures.leaves_dock line.auto.store
+
+pub shape_of-tables : goal.shape_of-tables
+shape_of-tables c =
+    image_whole c.loop-from.tables c.loop-from.invariant.ready.is ∙ sym (image_whole c.args.tables.now c.requires.0.is)
+
+pub shape_of-store : goal.shape_of-store
+shape_of-store c =
+    c.loop-from.invariant.ready.store ∙ sym c.requires.0.store
+
+pub shape_of-out : goal.shape_of-out
+shape_of-out c = c.loop-from.invariant.kept
+
+pub returns : goal.returns
+returns c =
+    let past : length c.args.input.now ≤ c.loop-from.from = omega (arith, c.loop-from-test.false) in
+    record { appends = ends _ _ _ _ _ _ _ _ _ _ _ c.loop-from.invariant past; leaves_dock = end_holds _ _ _ _ _ _ _ _ _ _ _ c.loop-from.invariant past }
