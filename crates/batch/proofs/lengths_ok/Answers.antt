@@ -8,7 +8,6 @@ use Rattle.lending.specs.Batch.{lengths_fit}
 use Rattle.batch.proofs.Refusals.{whole_answers}
 use Rattle.batch.proofs.lengths_ok.Goals as goal
 
-
 pub returns-then-tables-ne-IMAGE : goal.returns-then-tables-ne-IMAGE
 unfolding lengths_fit
 returns-then-tables-ne-IMAGE c =

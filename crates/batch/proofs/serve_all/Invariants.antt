@@ -13,7 +13,6 @@ use Rattle.lending.specs.Numbers.{count_of}
 use Rattle.batch.proofs.Steps.{Going, begins, still_image, next, ends}
 use Rattle.batch.proofs.serve_all.Given as goal
 
-
 abbrev pub invariant-loop-i : goal.invariant-loop-i
 invariant-loop-i l =
     Going (start_with (decode l.initial.tables) l.initial.store l.initial.sheets l.requests) l.n l.initial.answers l.i l.tables l.store l.sheets l.answers

@@ -10,7 +10,6 @@ use Rattle.image.specs.Image.{decode}
 use Rattle.image_chains.proofs.Walk.{Counted, none_counted, at_the_head, places_spent, one_more}
 use Rattle.image_chains.proofs.links.Given as goal
 
-
 abbrev pub invariant-loop-count : goal.invariant-loop-count
 invariant-loop-count l =
     (n : Name) → l.initial.up ≡ parent_of (lookup (decode l.image)) n → Counted (parent_of (lookup (decode l.image))) n l.count l.up

@@ -12,7 +12,6 @@ use Rattle.image_read.specs.Places.{entries_in}
 use Rattle.image_read.proofs.Places.{entries_long}
 use Rattle.image_find.proofs.entry_place.Given as goal
 
-
 abbrev pub invariant-loop-i : goal.invariant-loop-i
 invariant-loop-i l = (l.i ≤ 256) × (first_index (is_named l.n) (entries_in l.image) ≡ l.i + first_index (is_named l.n) (drop l.i (entries_in l.image)))
 

@@ -7,7 +7,6 @@ use borrow.Author.Rules.{rules}
 use Rattle.image_find.proofs.Steps.{FreeSearch, free_hit, free_miss, free_none}
 use Rattle.image_find.proofs.free_place.Given as goal
 
-
 abbrev pub invariant-loop-place : goal.invariant-loop-place
 invariant-loop-place l = (l.place ≤ 8) × FreeSearch l.image l.program l.place
 

@@ -5,7 +5,6 @@ use borrow.Author.Rules.{rules}
 use Rattle.image_find.proofs.Steps.{SpareSearch, spare_hit, spare_miss, spare_none}
 use Rattle.image_find.proofs.spare_place.Given as goal
 
-
 abbrev pub invariant-loop-i : goal.invariant-loop-i
 invariant-loop-i l = (l.i ≤ 256) × SpareSearch l.image l.i
 

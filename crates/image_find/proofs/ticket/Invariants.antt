@@ -6,7 +6,6 @@ use borrow.Author.Rules.{rules}
 use Rattle.image_find.proofs.Steps.{no_pad_lem, no_program_lem, Search, ticket_hit, ticket_miss, ticket_none}
 use Rattle.image_find.proofs.ticket.Given as goal
 
-
 abbrev pub invariant-loop-i : goal.invariant-loop-i
 invariant-loop-i l = (l.i ≤ 8) × ((a : l.n.pad ≤ 3) (b : l.n.program ≤ 7) → Search l.image l.n a b l.i)
 

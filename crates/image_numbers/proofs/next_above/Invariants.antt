@@ -6,7 +6,6 @@ use lib.ListN.{length}
 use Rattle.image_numbers.proofs.Least.{Best, best_none, best_past, best_kept, best_new, best_end}
 use Rattle.image_numbers.proofs.next_above.Given as goal
 
-
 abbrev pub invariant-loop-i : goal.invariant-loop-i
 invariant-loop-i l = Best l.numbers l.after l.next l.least l.i
 

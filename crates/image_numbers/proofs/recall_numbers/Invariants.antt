@@ -13,7 +13,6 @@ use Rattle.image_read.specs.Places.{tickets_in}
 use Rattle.image_numbers.specs.Numbers.{number_if, numbers_in}
 use Rattle.image_numbers.proofs.recall_numbers.Given as goal
 
-
 abbrev pub wanted : List ℕ → ℕ → ℕ → ℕ → ℕ
 wanted image program own j = number_if (is_recall_of own) (get_or (tickets_in image) (8 * program + j) free)
 

@@ -13,7 +13,6 @@ use Rattle.image_read.specs.Places.{tickets_in}
 use Rattle.image_numbers.specs.Numbers.{number_if, numbers_in}
 use Rattle.image_numbers.proofs.taken_numbers.Given as goal
 
-
 abbrev pub wanted : List ℕ → ℕ → ℕ → ℕ
 wanted image program j = number_if (λ k. is_taken k.kind) (get_or (tickets_in image) (8 * program + j) free)
 

@@ -6,7 +6,6 @@ use borrow.Author.Rules.{rules}
 use Rattle.image_pads.proofs.Places.{row_index, place_none, place_out, place_missing, place_here}
 use Rattle.image_pads.proofs.place_in.Goals as goal
 
-
 pub returns-then-number-eq0 : goal.returns-then-number-eq0
 returns-then-number-eq0 c = let a = c.args in
     place_none a.numbers.now a.program a.number c.if-number-eq0.true

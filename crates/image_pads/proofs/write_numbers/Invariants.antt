@@ -11,7 +11,6 @@ use Rattle.image_places.specs.Places.{number_of}
 use Rattle.image_pads.specs.Places.{on_pad, numbers_of}
 use Rattle.image_pads.proofs.write_numbers.Given as goal
 
-
 abbrev pub invariant-loop-i : goal.invariant-loop-i
 invariant-loop-i l = (l.i ≤ 64) × Laid 0 64 (λ j. number_of (on_pad (decode l.image) l.pad j)) l.i l.to
 

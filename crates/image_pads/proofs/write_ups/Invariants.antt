@@ -11,7 +11,6 @@ use Rattle.image_pads.specs.Places.{on_pad, up_of, ups_of}
 use Rattle.image_pads.proofs.Places.{up_fits}
 use Rattle.image_pads.proofs.write_ups.Given as goal
 
-
 abbrev pub invariant-loop-i : goal.invariant-loop-i
 invariant-loop-i l = (l.i ≤ 64) × Laid 0 64 (λ j. up_of l.numbers (j / 8) (on_pad (decode l.image) l.pad j)) l.i l.to
 

@@ -11,20 +11,18 @@ pub loop-i-init : goal.loop-i-init
 loop-i-init c = (omega arith, lowest_none (λ x. eqb x c.args.number) c.args.numbers.now 0)
 
 pub loop-i-preserved-then-numbers-i : goal.loop-i-preserved-then-numbers-i
-loop-i-preserved-then-numbers-i c =
-    (
-      omega arith,
-      lowest_hit (λ x. eqb x c.args.number) c.args.numbers.now 0 c.loop-i.i c.loop-i.found (omega arith)
-          (omega arith) c.loop-i.invariant.1 (eq-eqb _ _ c.if-numbers-i.true),
-    )
+loop-i-preserved-then-numbers-i c = (
+  omega arith,
+  lowest_hit (λ x. eqb x c.args.number) c.args.numbers.now 0 c.loop-i.i c.loop-i.found (omega arith)
+      (omega arith) c.loop-i.invariant.1 (eq-eqb _ _ c.if-numbers-i.true),
+)
 
 pub loop-i-preserved : goal.loop-i-preserved
-loop-i-preserved c =
-    (
-      omega arith,
-      lowest_miss (λ x. eqb x c.args.number) c.args.numbers.now 0 c.loop-i.i c.loop-i.found (omega arith)
-          (omega arith) c.loop-i.invariant.1 (ne_eqb _ _ c.if-numbers-i.false),
-    )
+loop-i-preserved c = (
+  omega arith,
+  lowest_miss (λ x. eqb x c.args.number) c.args.numbers.now 0 c.loop-i.i c.loop-i.found (omega arith)
+      (omega arith) c.loop-i.invariant.1 (ne_eqb _ _ c.if-numbers-i.false),
+)
 
 pub returns : goal.returns
 returns c =

@@ -3,7 +3,6 @@ use borrow.Author.Rules.{rules}
 use Rattle.image_places.proofs.PlaceSteps.{no_pad_lem, no_program_lem, no_number, not_there, is_there, of_eight}
 use Rattle.image_places.proofs.place_of.Goals as goal
 
-
 pub returns-then-n-gt3 : goal.returns-then-n-gt3
 returns-then-n-gt3 c = no_pad_lem c.args.numbers.now c.args.n c.if-n-gt3.true
 

@@ -3,7 +3,6 @@ use borrow.Author.Tests.{ne_eqb}
 use Rattle.image.specs.Image.{kind_of}
 use Rattle.image_read.proofs.kind_of.Goals as goal
 
-
 pub returns-in-1 : goal.returns-in-1
 unfolding kind_of
 returns-in-1 c = rw c.in-1.is

@@ -12,7 +12,6 @@ use Rattle.image.specs.Layout.{ticket_size}
 use Rattle.image.specs.Image.{read_ticket, read_program}
 use Rattle.image_read.proofs.program_in.Given as goal
 
-
 abbrev pub invariant-loop-i : goal.invariant-loop-i
 invariant-loop-i l = (l.i ≤ 8) × Laid free 8 (λ j. read_ticket (drop (ticket_size * j) l.bytes)) l.i l.tickets
 

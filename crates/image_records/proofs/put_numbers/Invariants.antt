@@ -9,7 +9,6 @@ use Rattle.image.specs.Numbers.{bytes_of}
 use Rattle.image.proofs.NumberLaws.{length_bytes, put_number}
 use Rattle.image_records.proofs.put_numbers.Given as goal
 
-
 abbrev pub invariant-loop-i : goal.invariant-loop-i
 invariant-loop-i l = (l.i ≤ length l.numbers) × ((length l.bytes ≡ length l.initial.bytes) × (l.bytes ≡ front (2 * l.i) (bytes_of l.numbers) l.initial.bytes))
 

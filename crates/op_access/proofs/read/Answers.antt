@@ -13,7 +13,6 @@ use Rattle.op_outcome.proofs.Laws.{stays}
 use Rattle.op_access.proofs.Steps.{may_be_refused, sheet_in_store, refused, done, own_read, after_read_lem}
 use Rattle.op_access.proofs.read.Goals as goal
 
-
 pub allowed-d-requires : goal.allowed-d-requires
 allowed-d-requires c =
     image_whole c.args.image.now c.requires.0

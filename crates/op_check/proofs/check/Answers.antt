@@ -8,7 +8,6 @@ use Rattle.op_check.proofs.Chains.{here, past}
 use Rattle.op_check.proofs.Tests.{no_sheet, low_right, high_right, well, before_it, after_it, in_it, by_entry}
 use Rattle.op_check.proofs.check.Goals as goal
 
-
 pub returns-then-sheet-gt255 : goal.returns-then-sheet-gt255
 returns-then-sheet-gt255 c =
     let a = c.args in

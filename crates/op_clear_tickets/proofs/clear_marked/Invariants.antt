@@ -10,7 +10,6 @@ use Rattle.op_clear_tickets.specs.Cleared.{is_marked, Cleared}
 use Rattle.op_clear_tickets.proofs.Laws.{stood, cleared_none, stands_yet, cleared_gone, cleared_kept}
 use Rattle.op_clear_tickets.proofs.clear_marked.Given as goal
 
-
 abbrev pub invariant-loop-i : goal.invariant-loop-i
 invariant-loop-i l = (l.i ≤ 64) × Cleared (64 * l.pad) l.i (λ p. is_marked l.marks (p - 64 * l.pad)) l.initial.image l.image
 

@@ -9,7 +9,6 @@ use Rattle.image_read.specs.Places.{tickets_in}
 use Rattle.op_clear_tickets.proofs.Steps.{not_marked, marked_live}
 use Rattle.op_clear_tickets.proofs.is_marked.Goals as goal
 
-
 pub returns-then-mark-ne1 : goal.returns-then-mark-ne1
 returns-then-mark-ne1 c =
     let a = c.args in

@@ -14,7 +14,6 @@ use Rattle.op_drop_entries.proofs.InImage.{Going, going_more, nothing_gone, goin
 use Rattle.op_drop_entries.proofs.InImage.{Turning, turning_none, turning_kept, turning_room, turning_gone}
 use Rattle.op_drop_entries.proofs.drop_below.Given as goal
 
-
 abbrev pub invariant-loop-i : goal.invariant-loop-i
 invariant-loop-i l =
     (is_image l.image ≡ true) × (l.tail ≤ 256)

@@ -5,7 +5,6 @@ use borrow.Author.Tests.{not-true, not-false}
 use Rattle.op_drop_entries.proofs.DirectlyBelow.{not_below, below_store, below_dead, below_when}
 use Rattle.op_drop_entries.proofs.is_below.Goals as goal
 
-
 pub returns-then-parent-n : goal.returns-then-parent-n
 returns-then-parent-n c = not_below c.args.n c.args.e c.if-parent-n.true
 

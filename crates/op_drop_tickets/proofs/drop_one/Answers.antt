@@ -37,18 +37,16 @@ overflow_add-place c =
     omega (arith, c.wide.ensures, c.wide-2.ensures, c.requires.1.0, c.requires.1.1, c.loop-i-test.true)
 
 pub ticket_at-k-requires : goal.ticket_at-k-requires
-ticket_at-k-requires c =
-    (
-      image_whole c.loop-i.image c.loop-i.invariant.1.is,
-      omega (arith, c.wide.ensures, c.wide-2.ensures, c.requires.1.0, c.requires.1.1, c.loop-i-test.true),
-    )
+ticket_at-k-requires c = (
+  image_whole c.loop-i.image c.loop-i.invariant.1.is,
+  omega (arith, c.wide.ensures, c.wide-2.ensures, c.requires.1.0, c.requires.1.1, c.loop-i-test.true),
+)
 
 pub put_ticket-requires : goal.put_ticket-requires
-put_ticket-requires c =
-    (
-      c.loop-i.invariant.1.is,
-      omega (arith, c.wide.ensures, c.wide-2.ensures, c.requires.1.0, c.requires.1.1, c.loop-i-test.true),
-    )
+put_ticket-requires c = (
+  c.loop-i.invariant.1.is,
+  omega (arith, c.wide.ensures, c.wide-2.ensures, c.requires.1.0, c.requires.1.1, c.loop-i-test.true),
+)
 
 pub loop-i-preserved-then-has_number : goal.loop-i-preserved-then-has_number
 loop-i-preserved-then-has_number c =

@@ -17,7 +17,6 @@ use Rattle.op_clear_tickets.proofs.Laws.{cleared_none, stands_yet, cleared_gone,
 use Rattle.op_drop_tickets.proofs.OneTicket.{by_name}
 use Rattle.op_drop_tickets.proofs.drop_one.Given as goal
 
-
 abbrev pub invariant-loop-i : goal.invariant-loop-i
 invariant-loop-i l = (l.i ≤ 8) × Cleared (start_of l.n) l.i (λ p. has_number l.n.number) l.initial.image l.image
 

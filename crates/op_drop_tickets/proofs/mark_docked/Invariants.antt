@@ -14,7 +14,6 @@ use Rattle.op_drop_tickets.specs.Marks.{mark_of, marks_of}
 use Rattle.op_drop_tickets.specs.Docked.{docked_with, docked_on}
 use Rattle.op_drop_tickets.proofs.mark_docked.Given as goal
 
-
 abbrev pub invariant-loop-i : goal.invariant-loop-i
 invariant-loop-i l = (l.i ≤ 64) × Laid 0 64 (λ j. mark_of (docked_on (decode l.image) l.d j)) l.i l.marks
 

@@ -12,7 +12,6 @@ use Rattle.op_follow.specs.Lent.{lent_by}
 use Rattle.op_follow.proofs.Turns.{begins, turned, passed, linked_now}
 use Rattle.op_follow.proofs.drop_lent.Given as goal
 
-
 abbrev pub invariant-loop-i : goal.invariant-loop-i
 invariant-loop-i l = (l.i ≤ 64) × Holds l.image (drop_entries (lent_by (decode l.initial.image) l.pad l.marks l.i) (decode l.initial.image))
 

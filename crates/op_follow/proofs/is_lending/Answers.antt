@@ -8,7 +8,6 @@ use borrow.Author.Rules.{rules}
 use Rattle.op_follow.proofs.Lending.{unmarked, no_recall, recall_there}
 use Rattle.op_follow.proofs.is_lending.Goals as goal
 
-
 pub returns-then-mark-ne1 : goal.returns-then-mark-ne1
 returns-then-mark-ne1 c = let a = c.args in unmarked a.pad a.mark a.k c.if-mark-ne1.true
 

@@ -8,7 +8,6 @@ use Rattle.lists.specs.Tests.{between}
 use Rattle.machine.specs.Operation.{field_ok}
 use Rattle.op_form.proofs.field_ok.Goals as goal
 
-
 module _ {used : Bool} (low high x : ℕ) where
   not_used : used ≡ false → eqb x 0 ≡ field_ok used low high x
   unfolding field_ok

@@ -11,7 +11,6 @@ use Rattle.op_form.proofs.Links.{Chosen, take_chosen, pass_chosen, ticket_chosen
 use Rattle.op_form.proofs.refusal.Goals as goal
 use Rattle.op_form.proofs.refusal.Goals.{in-1, in-2, in-3-to-4, in-5-to-6}
 
-
 pub returns-then-r-gt3 : goal.returns-then-r-gt3
 returns-then-r-gt3 c = bad_pad _ c.if-r-gt3.true
 
@@ -31,10 +30,10 @@ unfolding ◌when◌else◌ used_by
 returns-then-fields_ok c =
     by_fields _ c.if-r-gt3.false c.if-r-gt7.false _
     (elim c.match-op.branch [
-      in-1 w ↦ take_chosen _ _ w.in-1.is (ap fields_of w.used-is)
-    | in-2 w ↦ pass_chosen _ _ w.in-2.is (ap fields_of w.used-is)
-    | in-3-to-4 w ↦ ticket_chosen _ _ (omega arith) (omega arith) (omega arith) (omega arith) (ap fields_of w.used-is)
-    | in-5-to-6 w ↦ sheet_chosen _ _ (omega arith) (omega arith) (ap fields_of w.used-is)
+      | in-1 w ↦ take_chosen _ _ w.in-1.is (ap fields_of w.used-is)
+      | in-2 w ↦ pass_chosen _ _ w.in-2.is (ap fields_of w.used-is)
+      | in-3-to-4 w ↦ ticket_chosen _ _ (omega arith) (omega arith) (omega arith) (omega arith) (ap fields_of w.used-is)
+      | in-5-to-6 w ↦ sheet_chosen _ _ (omega arith) (omega arith) (ap fields_of w.used-is)
     ])
     true (sym c.if-fields_ok.true ∙ c.fields_ok.ensures)
 
@@ -43,9 +42,9 @@ unfolding ◌when◌else◌ used_by
 returns-else-fields_ok c =
     by_fields _ c.if-r-gt3.false c.if-r-gt7.false _
     (elim c.match-op.branch [
-      in-1 w ↦ take_chosen _ _ w.in-1.is (ap fields_of w.used-is)
-    | in-2 w ↦ pass_chosen _ _ w.in-2.is (ap fields_of w.used-is)
-    | in-3-to-4 w ↦ ticket_chosen _ _ (omega arith) (omega arith) (omega arith) (omega arith) (ap fields_of w.used-is)
-    | in-5-to-6 w ↦ sheet_chosen _ _ (omega arith) (omega arith) (ap fields_of w.used-is)
+      | in-1 w ↦ take_chosen _ _ w.in-1.is (ap fields_of w.used-is)
+      | in-2 w ↦ pass_chosen _ _ w.in-2.is (ap fields_of w.used-is)
+      | in-3-to-4 w ↦ ticket_chosen _ _ (omega arith) (omega arith) (omega arith) (omega arith) (ap fields_of w.used-is)
+      | in-5-to-6 w ↦ sheet_chosen _ _ (omega arith) (omega arith) (ap fields_of w.used-is)
     ])
     false (sym c.if-fields_ok.false ∙ c.fields_ok.ensures)

@@ -9,7 +9,6 @@ use Rattle.op_outcome.proofs.Laws.{leaves, stays, entries_kept_lem}
 use Rattle.op_give_back.proofs.Steps.{span_of_asked, head_of_asked, gave_back, refused, given_back}
 use Rattle.op_give_back.proofs.give_back.Goals as goal
 
-
 pub allowed-d-requires : goal.allowed-d-requires
 allowed-d-requires c =
     image_whole c.args.image.now c.requires.0

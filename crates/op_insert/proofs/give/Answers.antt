@@ -4,7 +4,6 @@ use Rattle.image.proofs.RoundTrip.{image_whole}
 use Rattle.op_insert.proofs.Inserted.{given_here, given_nowhere}
 use Rattle.op_insert.proofs.give.Goals as goal
 
-
 pub free_place-place-requires : goal.free_place-place-requires
 free_place-place-requires c = (image_whole c.args.image.now c.requires.0, c.requires.1)
 

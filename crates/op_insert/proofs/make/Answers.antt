@@ -4,7 +4,6 @@ use Rattle.image.proofs.RoundTrip.{image_whole}
 use Rattle.op_insert.proofs.Inserted.{made_here, made_nowhere}
 use Rattle.op_insert.proofs.make.Goals as goal
 
-
 pub spare_place-place-requires : goal.spare_place-place-requires
 spare_place-place-requires c = image_whole c.args.image.now c.requires
 

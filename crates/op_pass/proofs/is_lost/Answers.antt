@@ -7,7 +7,6 @@ use Rattle.tables.specs.Lookup.{entry_of}
 use Rattle.image.specs.Image.{decode}
 use Rattle.op_pass.proofs.is_lost.Goals as goal
 
-
 pub returns-then-r : goal.returns-then-r
 returns-then-r c =
     let a = c.args in

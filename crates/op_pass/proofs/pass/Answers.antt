@@ -8,7 +8,6 @@ use Rattle.op_outcome.proofs.Laws.{leaves}
 use Rattle.op_pass.proofs.Steps.{may_be_refused, refused, first_fits, passed}
 use Rattle.op_pass.proofs.pass.Goals as goal
 
-
 pub allowed-d-requires : goal.allowed-d-requires
 allowed-d-requires c =
     (image_whole c.args.image.now c.requires.0, c.requires.1.1)

@@ -9,7 +9,6 @@ use Rattle.op_outcome.proofs.Laws.{leaves, stays, entries_kept_lem}
 use Rattle.op_recall.proofs.Steps.{recalled_near, recalled_far, refused, recalled}
 use Rattle.op_recall.proofs.recall.Goals as goal
 
-
 pub allowed-d-requires : goal.allowed-d-requires
 allowed-d-requires c =
     image_whole c.args.image.now c.requires.0

@@ -7,7 +7,6 @@ use Rattle.op_check.proofs.Chains.{here, past}
 use Rattle.op_refusals.specs.Parts.{pass_room_refusal}
 use Rattle.op_refusals.proofs.pass_room.Goals as goal
 
-
 neither : {a b : Bool} → a ≡ false → b ≡ false → (a || b) ≡ false
 neither {a} {b} p q = rw (p, q)
 

@@ -7,7 +7,6 @@ use Rattle.op_run.proofs.Runs.{bound_low, none_behind_bound}
 use Rattle.op_run.proofs.BestFit.{Sought, sought_none, sought_on, sought_more, sought_end}
 use Rattle.op_run.proofs.best_fit.Given as goal
 
-
 abbrev pub invariant-loop-s : goal.invariant-loop-s
 invariant-loop-s l = (l.bound ≤ 256) × Sought l.count l.ends l.found l.start l.s
 

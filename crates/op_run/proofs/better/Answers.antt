@@ -2,7 +2,6 @@ use borrow.Author.Rules.{rules}
 use Rattle.op_run.proofs.BestFit.{no_sheets, too_short, not_smaller, smaller}
 use Rattle.op_run.proofs.better.Goals as goal
 
-
 pub returns-then-end-start : goal.returns-then-end-start
 returns-then-end-start c = let a = c.args in no_sheets a.found a.start a.end a.count c.if-end-start.true
 

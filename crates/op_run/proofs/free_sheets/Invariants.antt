@@ -5,7 +5,6 @@ use Rattle.image_read.specs.Places.{entries_in}
 use Rattle.op_run.proofs.FreeSheets.{Counted, counted_none, counted_free, counted_taken, counted_all}
 use Rattle.op_run.proofs.free_sheets.Given as goal
 
-
 abbrev pub invariant-loop-s : goal.invariant-loop-s
 invariant-loop-s l = Counted l.ends l.reach l.free l.s
 

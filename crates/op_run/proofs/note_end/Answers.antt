@@ -4,7 +4,6 @@ use borrow.Author.Tests.{not-true, not-false}
 use Rattle.op_run.proofs.Runs.{notes_dead, notes_high, notes}
 use Rattle.op_run.proofs.note_end.Goals as goal
 
-
 pub returns-then-not-e : goal.returns-then-not-e
 returns-then-not-e c = let e = c.args.e in notes_dead e (not-true e.live c.if-not-e.true)
 

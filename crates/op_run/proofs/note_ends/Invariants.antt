@@ -6,7 +6,6 @@ use Rattle.image_read.proofs.Places.{entries_long}
 use Rattle.op_run.proofs.Runs.{Noting, noting_none, noting_more, noting_end}
 use Rattle.op_run.proofs.note_ends.Given as goal
 
-
 abbrev pub invariant-loop-i : goal.invariant-loop-i
 invariant-loop-i l = Noting (entries_in l.image) l.initial.ends l.ends l.bound l.i
 

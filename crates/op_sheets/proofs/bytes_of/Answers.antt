@@ -22,15 +22,14 @@ pub loop-i-smaller : goal.loop-i-smaller
 loop-i-smaller c = omega arith
 
 pub loop-i-preserved : goal.loop-i-preserved
-loop-i-preserved c =
-    (
-      omega arith,
-      (
-        simp length-set (omega arith),
-        rw c.loop-i.invariant.1.1
-            (front_more c.loop-i.i c.args.from.now (replicate 64 0) 0 (omega arith)),
-      ),
-    )
+loop-i-preserved c = (
+  omega arith,
+  (
+    simp length-set (omega arith),
+    rw c.loop-i.invariant.1.1
+        (front_more c.loop-i.i c.args.from.now (replicate 64 0) 0 (omega arith)),
+  ),
+)
 
 pub returns : goal.returns
 returns c =

@@ -6,7 +6,6 @@ use lib.ListN.{length, replicate, length-set}
 use Rattle.lists.proofs.Front.{front, front_none, front_more, front_end}
 use Rattle.op_sheets.proofs.bytes_of.Given as goal
 
-
 abbrev pub invariant-loop-i : goal.invariant-loop-i
 invariant-loop-i l = (l.i ≤ 64) × ((length l.bytes ≡ 64) × (l.bytes ≡ front l.i l.from (replicate 64 0)))
 

@@ -6,7 +6,6 @@ use lib.ListN.{length, replicate, length-set}
 use Rattle.lists.proofs.Front.{front, front_none, fill_more, fill_end}
 use Rattle.op_sheets.proofs.clear.Given as goal
 
-
 abbrev pub invariant-loop-i : goal.invariant-loop-i
 invariant-loop-i l = (l.i ≤ length l.initial.s) × ((length l.s ≡ length l.initial.s) × (l.s ≡ front l.i (replicate (length l.initial.s) 0) l.initial.s))
 

@@ -6,7 +6,6 @@ use lib.ListN.{length, length-set}
 use Rattle.lists.proofs.Front.{front, front_none, front_more, front_end}
 use Rattle.op_sheets.proofs.put.Given as goal
 
-
 abbrev pub invariant-loop-i : goal.invariant-loop-i
 invariant-loop-i l = (l.i ≤ 64) × ((length l.to ≡ 64) × (l.to ≡ front l.i l.bytes l.initial.to))
 

@@ -9,7 +9,6 @@ use Rattle.op_form.proofs.Laws.{sender_possible, take_fields}
 use Rattle.op_take.proofs.Steps.{no_place, spent, no_run, allows}
 use Rattle.op_take.proofs.allowed.Goals as goal
 
-
 pub seat-p-requires : goal.seat-p-requires
 seat-p-requires c =
     (c.requires.0, sender_possible c.args.r c.requires.1.early)

@@ -8,7 +8,6 @@ use Rattle.op_outcome.proofs.Laws.{leaves, stays}
 use Rattle.op_take.proofs.Steps.{run_in_store, served_not, taken}
 use Rattle.op_take.proofs.take.Goals as goal
 
-
 pub allowed-d-requires : goal.allowed-d-requires
 allowed-d-requires c =
     (image_whole c.args.image.now c.requires.0, c.requires.1.1)

@@ -6,7 +6,6 @@ use Rattle.image_read.proofs.Places.{tickets_long}
 use Rattle.order_children.proofs.Heads.{parents_say, parents_missing, heads_decide, no_children}
 use Rattle.order_children.proofs.chains_ok.Goals as goal
 
-
 pub returns-then-children-eq0 : goal.returns-then-children-eq0
 returns-then-children-eq0 c =
     λ t flat ix. no_children t _ _ c.args.numbers.now flat ix _ c.requires.1.1 c.if-children-eq0.true

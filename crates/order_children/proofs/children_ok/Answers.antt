@@ -18,21 +18,19 @@ use Rattle.order_children.proofs.Children.{up_of, no_child, no_child_up, no_pare
 use Rattle.order_children.proofs.children_ok.Goals as goal
 
 pub loop-i-init : goal.loop-i-init
-loop-i-init c =
-    (
-      omega arith,
-      (
-        (λ j h. absurd (omega (arith, h))),
-        subst (Filled 256 256 _ _ 0) (sym c.requires.1.1.1) (filled_none 256 256 _ _),
-      ),
-    )
+loop-i-init c = (
+  omega arith,
+  (
+    (λ j h. absurd (omega (arith, h))),
+    subst (Filled 256 256 _ _ 0) (sym c.requires.1.1.1) (filled_none 256 256 _ _),
+  ),
+)
 
 pub ticket_at-k-requires : goal.ticket_at-k-requires
-ticket_at-k-requires c =
-    (
-      c.requires.0,
-      omega (arith, c.wide-at.ensures, c.requires.1.1.0.low c.loop-i.i (omega arith)),
-    )
+ticket_at-k-requires c = (
+  c.requires.0,
+  omega (arith, c.wide-at.ensures, c.requires.1.1.0.low c.loop-i.i (omega arith)),
+)
 
 pub place_of-p-requires : goal.place_of-p-requires
 place_of-p-requires c =

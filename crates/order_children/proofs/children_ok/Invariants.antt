@@ -17,7 +17,6 @@ use Rattle.order_children.specs.Parts.{child_ok, children_ok}
 use Rattle.order_children.proofs.Children.{up_of, no_child, no_child_up, no_parent, by_parent, parent_up}
 use Rattle.order_children.proofs.children_ok.Given as goal
 
-
 abbrev pub invariant-loop-i : goal.invariant-loop-i
 invariant-loop-i l =
     (l.i ≤ length l.children)

@@ -29,12 +29,11 @@ returns-then-head-ge256 c =
     (head_missed c.args.up.now (get_or c.args.children.now c.loop-i.i 0) _ c.wide-at.ensures _ c.end_from-head.ensures (get_or ks (get_or c.args.children.now c.loop-i.i 0) free) (l.passes c.loop-i.i (omega arith)) c.if-head-ge256.true)
 
 pub loop-i-preserved : goal.loop-i-preserved
-loop-i-preserved c =
-    (
-      omega arith,
-      below_more _ c.loop-i.i c.loop-i.invariant.1
-          (head_found c.args.up.now (get_or c.args.children.now c.loop-i.i 0) _ c.wide-at.ensures _ c.end_from-head.ensures (omega (arith, c.if-head-ge256.false))),
-    )
+loop-i-preserved c = (
+  omega arith,
+  below_more _ c.loop-i.i c.loop-i.invariant.1
+      (head_found c.args.up.now (get_or c.args.children.now c.loop-i.i 0) _ c.wide-at.ensures _ c.end_from-head.ensures (omega (arith, c.if-head-ge256.false))),
+)
 
 pub returns : goal.returns
 unfolding heads_ok

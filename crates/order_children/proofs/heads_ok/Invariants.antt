@@ -16,7 +16,6 @@ use Rattle.order_children.specs.Parts.{heads_ok}
 use Rattle.order_children.proofs.Children.{headed, no_head_asked, head_missed, head_found}
 use Rattle.order_children.proofs.heads_ok.Given as goal
 
-
 abbrev pub invariant-loop-i : goal.invariant-loop-i
 invariant-loop-i l =
     (l.i ≤ length l.children) × ((j : ℕ) → j < l.i → ltb (end_from 64 l.up (get_or l.children j 0)) 256 ≡ true)

@@ -48,12 +48,11 @@ loop-i-smaller c =
     omega (arith, c.loop-i-test.true)
 
 pub loop-i-preserved : goal.loop-i-preserved
-loop-i-preserved c =
-    (
-      omega (arith, c.loop-i-test.true),
-      linked_more _ _ _ _ (entries_long c.args.image.now) c.requires.1.1.1.0 c.loop-i.i c.loop-i-test.true _ c.wide-at.ensures _ c.entry_at-e.ensures _
-          c.note_of-q.ensures _ c.entry_at-parent.ensures _ c.loop-i.invariant.1 (sym c.if-not-parent_entry_ok.false ∙ c.parent_entry_ok.ensures),
-    )
+loop-i-preserved c = (
+  omega (arith, c.loop-i-test.true),
+  linked_more _ _ _ _ (entries_long c.args.image.now) c.requires.1.1.1.0 c.loop-i.i c.loop-i-test.true _ c.wide-at.ensures _ c.entry_at-e.ensures _
+      c.note_of-q.ensures _ c.entry_at-parent.ensures _ c.loop-i.invariant.1 (sym c.if-not-parent_entry_ok.false ∙ c.parent_entry_ok.ensures),
+)
 
 pub shape_of-up : goal.shape_of-up
 shape_of-up c =

@@ -23,11 +23,10 @@ returns-then-notes-at-ge256 c =
     λ tickets long listing. taken_broken _ c.requires.0 _ tickets long listing c.loop-i.i c.loop-i-test.true _ c.wide-at.ensures c.if-notes-at-ge256.true
 
 pub loop-i-preserved : goal.loop-i-preserved
-loop-i-preserved c =
-    (
-      omega (arith, c.loop-i-test.true),
-      below_more _ _ c.loop-i.invariant.1 (subst (λ (p : ℕ). get_or c.args.notes.now p 0 < 256) c.wide-at.ensures (omega (arith, c.if-notes-at-ge256.false))),
-    )
+loop-i-preserved c = (
+  omega (arith, c.loop-i-test.true),
+  below_more _ _ c.loop-i.invariant.1 (subst (λ (p : ℕ). get_or c.args.notes.now p 0 < 256) c.wide-at.ensures (omega (arith, c.if-notes-at-ge256.false))),
+)
 
 pub returns : goal.returns
 returns c =

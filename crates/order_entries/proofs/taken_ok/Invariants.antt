@@ -7,7 +7,6 @@ use borrow.Author.Count.{below_none, below_more}
 use Rattle.order_entries.proofs.TakenSteps.{taken_broken, taken_all}
 use Rattle.order_entries.proofs.taken_ok.Given as goal
 
-
 abbrev pub invariant-loop-i : goal.invariant-loop-i
 invariant-loop-i l = (l.i ≤ length l.taken) × ((j : ℕ) → j < l.i → get_or l.notes (get_or l.taken j 0) 0 < 256)
 

@@ -28,26 +28,24 @@ returns-then-not-settle c =
     (omega (arith, c.requires.1.0 c.loop-i.i c.loop-i-test.true, c.wide-at.ensures)) c.if-not-settle.true
 
 pub loop-i-preserved-else-not-settle : goal.loop-i-preserved-else-not-settle
-loop-i-preserved-else-not-settle c =
-    (
-      omega (arith, c.loop-i-test.true),
-      (
-        search rules,
-        walked_more _ _ _ _ c.loop-i.invariant.1.1 c.requires.0 _ c.wide-at.ensures _ _
-            c.settle.ensures c.if-not-settle.false,
-      ),
-    )
+loop-i-preserved-else-not-settle c = (
+  omega (arith, c.loop-i-test.true),
+  (
+    search rules,
+    walked_more _ _ _ _ c.loop-i.invariant.1.1 c.requires.0 _ c.wide-at.ensures _ _
+        c.settle.ensures c.if-not-settle.false,
+  ),
+)
 
 pub loop-i-preserved : goal.loop-i-preserved
-loop-i-preserved c =
-    (
-      omega (arith, c.loop-i-test.true),
-      (
-        c.loop-i.invariant.1.0,
-        walked_skip _ _ _ _ c.loop-i.invariant.1.1 c.requires.0 _ c.wide-at.ensures
-            (omega (arith, c.if-up-at-lt256.false)),
-      ),
-    )
+loop-i-preserved c = (
+  omega (arith, c.loop-i-test.true),
+  (
+    c.loop-i.invariant.1.0,
+    walked_skip _ _ _ _ c.loop-i.invariant.1.1 c.requires.0 _ c.wide-at.ensures
+        (omega (arith, c.if-up-at-lt256.false)),
+  ),
+)
 
 pub returns : goal.returns
 returns c =

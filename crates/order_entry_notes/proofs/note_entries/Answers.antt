@@ -29,11 +29,10 @@ shape_of-received-then-said-gt1 c =
     c.loop-i.invariant.1.long.1.1 ∙ sym c.requires.1.1.1.1.1
 
 pub returns-then-said-gt1 : goal.returns-then-said-gt1
-returns-then-said-gt1 c =
-    (
-      bad_live _ _ _ _ _ _ _ _ _ c.loop-i.invariant.1 c.loop-i-test.true _ c.live_at-said.ensures c.if-said-gt1.true _ _ c.refused.ensures,
-      λ e. contradiction e c.refused.ensures,
-    )
+returns-then-said-gt1 c = (
+  bad_live _ _ _ _ _ _ _ _ _ c.loop-i.invariant.1 c.loop-i-test.true _ c.live_at-said.ensures c.if-said-gt1.true _ _ c.refused.ensures,
+  λ e. contradiction e c.refused.ensures,
+)
 
 pub shape_of-notes-then-p-ge256 : goal.shape_of-notes-then-p-ge256
 shape_of-notes-then-p-ge256 c =
@@ -52,12 +51,11 @@ shape_of-received-then-p-ge256 c =
     c.loop-i.invariant.1.long.1.1 ∙ sym c.requires.1.1.1.1.1
 
 pub returns-then-p-ge256 : goal.returns-then-p-ge256
-returns-then-p-ge256 c =
-    (
-      bad_grant _ _ _ _ _ _ _ _ _ c.loop-i.invariant.1 c.loop-i-test.true _ c.live_at-said.ensures (omega (arith, c.if-said-gt1.false)) _ c.entry_at-e.ensures
-          c.if-e.true _ c.grant_place-p.ensures c.if-p-ge256.true _ _ c.refused-then-p-ge256.ensures,
-      λ e. contradiction e c.refused-then-p-ge256.ensures,
-    )
+returns-then-p-ge256 c = (
+  bad_grant _ _ _ _ _ _ _ _ _ c.loop-i.invariant.1 c.loop-i-test.true _ c.live_at-said.ensures (omega (arith, c.if-said-gt1.false)) _ c.entry_at-e.ensures
+      c.if-e.true _ c.grant_place-p.ensures c.if-p-ge256.true _ _ c.refused-then-p-ge256.ensures,
+  λ e. contradiction e c.refused-then-p-ge256.ensures,
+)
 
 pub bounds-notes-p : goal.bounds-notes-p
 bounds-notes-p c =
@@ -80,12 +78,11 @@ shape_of-received-then-notes-p-lt256 c =
     c.loop-i.invariant.1.long.1.1 ∙ sym c.requires.1.1.1.1.1
 
 pub returns-then-notes-p-lt256 : goal.returns-then-notes-p-lt256
-returns-then-notes-p-lt256 c =
-    (
-      bad_twice _ _ _ _ _ _ _ _ _ c.loop-i.invariant.1 c.loop-i-test.true _ c.live_at-said.ensures (omega (arith, c.if-said-gt1.false)) _ c.entry_at-e.ensures
-          c.if-e.true _ c.grant_place-p.ensures (omega (arith, c.if-p-ge256.false)) c.if-notes-p-lt256.true _ _ c.refused-then-notes-p-lt256.ensures,
-      λ e. contradiction e c.refused-then-notes-p-lt256.ensures,
-    )
+returns-then-notes-p-lt256 c = (
+  bad_twice _ _ _ _ _ _ _ _ _ c.loop-i.invariant.1 c.loop-i-test.true _ c.live_at-said.ensures (omega (arith, c.if-said-gt1.false)) _ c.entry_at-e.ensures
+      c.if-e.true _ c.grant_place-p.ensures (omega (arith, c.if-p-ge256.false)) c.if-notes-p-lt256.true _ _ c.refused-then-notes-p-lt256.ensures,
+  λ e. contradiction e c.refused-then-notes-p-lt256.ensures,
+)
 
 pub bounds-notes-p-then-e : goal.bounds-notes-p-then-e
 bounds-notes-p-then-e c =
@@ -129,25 +126,23 @@ loop-i-smaller-then-e c =
     omega (arith, c.loop-i-test.true)
 
 pub loop-i-preserved-then-e : goal.loop-i-preserved-then-e
-loop-i-preserved-then-e c =
-    (
-      omega (arith, c.loop-i-test.true),
-      passed_live _ _ _ _ _ _ _ _ _ c.loop-i.invariant.1 c.loop-i-test.true _ c.live_at-said.ensures
-          (omega (arith, c.if-said-gt1.false)) _ c.entry_at-e.ensures c.if-e.true _ c.grant_place-p.ensures (omega (arith, c.if-p-ge256.false))
-          (omega (arith, c.if-notes-p-lt256.false)) _ _ c.is_root.ensures c.is_hung.ensures _ _ c.one_if-a.ensures.0 c.one_if-b.ensures.0,
-    )
+loop-i-preserved-then-e c = (
+  omega (arith, c.loop-i-test.true),
+  passed_live _ _ _ _ _ _ _ _ _ c.loop-i.invariant.1 c.loop-i-test.true _ c.live_at-said.ensures
+      (omega (arith, c.if-said-gt1.false)) _ c.entry_at-e.ensures c.if-e.true _ c.grant_place-p.ensures (omega (arith, c.if-p-ge256.false))
+      (omega (arith, c.if-notes-p-lt256.false)) _ _ c.is_root.ensures c.is_hung.ensures _ _ c.one_if-a.ensures.0 c.one_if-b.ensures.0,
+)
 
 pub loop-i-smaller : goal.loop-i-smaller
 loop-i-smaller c =
     omega (arith, c.loop-i-test.true)
 
 pub loop-i-preserved : goal.loop-i-preserved
-loop-i-preserved c =
-    (
-      omega (arith, c.loop-i-test.true),
-      passed_free _ _ _ _ _ _ _ _ _ c.loop-i.invariant.1 c.loop-i-test.true _ c.live_at-said.ensures
-          (omega (arith, c.if-said-gt1.false)) _ c.entry_at-e.ensures c.if-e.false,
-    )
+loop-i-preserved c = (
+  omega (arith, c.loop-i-test.true),
+  passed_free _ _ _ _ _ _ _ _ _ c.loop-i.invariant.1 c.loop-i-test.true _ c.live_at-said.ensures
+      (omega (arith, c.if-said-gt1.false)) _ c.entry_at-e.ensures c.if-e.false,
+)
 
 pub shape_of-notes : goal.shape_of-notes
 shape_of-notes c =

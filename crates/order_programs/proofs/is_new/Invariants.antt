@@ -8,7 +8,6 @@ use borrow.Author.Rules.{rules}
 use Rattle.order_programs.proofs.Numbers.{found_old, none_old}
 use Rattle.order_programs.proofs.is_new.Given as goal
 
-
 abbrev pub invariant-loop-i : goal.invariant-loop-i
 invariant-loop-i l = (l.i ≤ length l.numbers) × ((j : ℕ) → j < l.i → get_or l.numbers j 0 ≡ l.number → ⊥)
 

@@ -109,26 +109,24 @@ loop-i-smaller-then-said-ne0 c =
     omega (arith, c.loop-i-test.true)
 
 pub loop-i-preserved-then-said-ne0 : goal.loop-i-preserved-then-said-ne0
-loop-i-preserved-then-said-ne0 c =
-    (
-      omega (arith, c.loop-i-test.true),
-      passed_live _ _ _ _ _ _ _ _ _ c.loop-i.invariant.1 c.loop-i-test.true _ c.kind_at-said.ensures
-          (omega (arith, c.if-said-gt4.false)) c.if-said-ne0.true _ c.ticket_at-k.ensures (passed c.ticket_ok.ensures (ap not c.if-not-ticket_ok.false)) _ _ _
-          c.is_taken.ensures c.is_child.ensures c.is_recall.ensures _ _ _ c.one_if-a.ensures.0 c.one_if-b.ensures.0
-          c.one_if-c.ensures.0,
-    )
+loop-i-preserved-then-said-ne0 c = (
+  omega (arith, c.loop-i-test.true),
+  passed_live _ _ _ _ _ _ _ _ _ c.loop-i.invariant.1 c.loop-i-test.true _ c.kind_at-said.ensures
+      (omega (arith, c.if-said-gt4.false)) c.if-said-ne0.true _ c.ticket_at-k.ensures (passed c.ticket_ok.ensures (ap not c.if-not-ticket_ok.false)) _ _ _
+      c.is_taken.ensures c.is_child.ensures c.is_recall.ensures _ _ _ c.one_if-a.ensures.0 c.one_if-b.ensures.0
+      c.one_if-c.ensures.0,
+)
 
 pub loop-i-smaller : goal.loop-i-smaller
 loop-i-smaller c =
     omega (arith, c.loop-i-test.true)
 
 pub loop-i-preserved : goal.loop-i-preserved
-loop-i-preserved c =
-    (
-      omega (arith, c.loop-i-test.true),
-      passed_free _ _ _ _ _ _ _ _ _ c.loop-i.invariant.1 c.loop-i-test.true _ c.kind_at-said.ensures
-          (omega (arith, c.if-said-gt4.false)) c.if-said-ne0.false,
-    )
+loop-i-preserved c = (
+  omega (arith, c.loop-i-test.true),
+  passed_free _ _ _ _ _ _ _ _ _ c.loop-i.invariant.1 c.loop-i-test.true _ c.kind_at-said.ensures
+      (omega (arith, c.if-said-gt4.false)) c.if-said-ne0.false,
+)
 
 pub shape_of-numbers : goal.shape_of-numbers
 shape_of-numbers c =

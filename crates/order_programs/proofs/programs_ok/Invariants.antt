@@ -11,7 +11,6 @@ use Rattle.image.specs.Image.{kinds_ok}
 use Rattle.order_programs.proofs.Passing.{Passed, passed_none, bad_kind, passed_free, bad_ticket, passed_live, all_pass, all_indexed}
 use Rattle.order_programs.proofs.programs_ok.Given as goal
 
-
 abbrev pub invariant-loop-i : goal.invariant-loop-i
 invariant-loop-i l =
     (l.i ≤ 256) × Passed l.image l.i l.numbers l.taken l.children l.recalls l.a l.b l.c

@@ -27,11 +27,10 @@ returns-then-marks-at-ne1 c =
     (ne_eqb (get_or marks (get_or places i 0) 0) 1 (λ e. c.if-marks-at-ne1.true (ap (λ (p : ℕ). get_or marks p 0) c.wide-at.ensures ∙ e)))
 
 pub loop-i-preserved : goal.loop-i-preserved
-loop-i-preserved c =
-    (
-      omega arith,
-      below_more _ _ c.loop-i.invariant.1 (ap (λ (p : ℕ). get_or c.args.marks.now p 0) (sym c.wide-at.ensures) ∙ c.if-marks-at-ne1.false),
-    )
+loop-i-preserved c = (
+  omega arith,
+  below_more _ _ c.loop-i.invariant.1 (ap (λ (p : ℕ). get_or c.args.marks.now p 0) (sym c.wide-at.ensures) ∙ c.if-marks-at-ne1.false),
+)
 
 pub returns : goal.returns
 returns c =

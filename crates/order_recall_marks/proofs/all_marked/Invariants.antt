@@ -11,7 +11,6 @@ use Rattle.lists.proofs.Loops.{all_broken}
 use Rattle.order_recall_marks.specs.Keys.{is_marked}
 use Rattle.order_recall_marks.proofs.all_marked.Given as goal
 
-
 abbrev pub invariant-loop-i : goal.invariant-loop-i
 invariant-loop-i l = (l.i ≤ length l.places) × ((j : ℕ) → j < l.i → get_or l.marks (get_or l.places j 0) 0 ≡ 1)
 

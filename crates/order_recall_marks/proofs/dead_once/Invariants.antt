@@ -8,7 +8,6 @@ use borrow.Author.Rules.{rules}
 use Rattle.order_recall_marks.proofs.Seen.{Dead, dead_none, dead_skip, dead_more, dead_not, dead_end}
 use Rattle.order_recall_marks.proofs.dead_once.Given as goal
 
-
 abbrev pub invariant-loop-i : goal.invariant-loop-i
 invariant-loop-i l = (l.i ≤ length l.recalls) × Dead l.keys l.recalls l.i l.count l.dead
 

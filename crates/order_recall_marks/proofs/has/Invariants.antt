@@ -8,7 +8,6 @@ use borrow.Author.Count.{below_more}
 use Rattle.order_recall_marks.proofs.Seen.{has_here, has_none}
 use Rattle.order_recall_marks.proofs.has.Given as goal
 
-
 abbrev pub invariant-loop-i : goal.invariant-loop-i
 invariant-loop-i l = (l.i ≤ length l.numbers) × ((j : ℕ) → j < l.i → get_or l.numbers j 0 ≡ l.x → ⊥)
 

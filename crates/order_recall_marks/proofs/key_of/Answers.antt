@@ -6,7 +6,6 @@ use borrow.Author.Rules.{rules}
 use Rattle.order_recall_marks.proofs.KeySteps.{dead_key, key_place, key_dead}
 use Rattle.order_recall_marks.proofs.key_of.Goals as goal
 
-
 pub returns-then-place-lt256 : goal.returns-then-place-lt256
 returns-then-place-lt256 c = key_place c.args.place c.args.target c.if-place-lt256.true
 

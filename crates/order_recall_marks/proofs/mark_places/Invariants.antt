@@ -7,7 +7,6 @@ use borrow.Author.Rules.{rules}
 use Rattle.order_recall_marks.proofs.Seen.{Marks, marks_none, marks_skip, marks_more, marks_not, marks_end}
 use Rattle.order_recall_marks.proofs.mark_places.Given as goal
 
-
 abbrev pub invariant-loop-i : goal.invariant-loop-i
 invariant-loop-i l = (l.i ≤ length l.recalls) × Marks l.keys l.recalls l.i l.marks
 

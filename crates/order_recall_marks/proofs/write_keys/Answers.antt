@@ -11,12 +11,11 @@ use Rattle.order_recall_marks.proofs.KeySteps.{Written, written, all_written}
 use Rattle.order_recall_marks.proofs.write_keys.Goals as goal
 
 pub loop-i-init : goal.loop-i-init
-loop-i-init c =
-    (
-      omega arith,
-      subst (Written c.args.numbers.now (tickets_in c.args.image.now) c.args.recalls.now 0)
-          (sym c.requires.1.1.0) (filled_none 256 256 _ _),
-    )
+loop-i-init c = (
+  omega arith,
+  subst (Written c.args.numbers.now (tickets_in c.args.image.now) c.args.recalls.now 0)
+      (sym c.requires.1.1.0) (filled_none 256 256 _ _),
+)
 
 pub overflow_add-i : goal.overflow_add-i
 overflow_add-i c = omega (arith, c.loop-i-test.true, c.requires.1.1.1.most)
@@ -37,12 +36,11 @@ bounds-keys-at c =
     omega (arith, c.loop-i.invariant.1.long, c.wide-at.ensures, c.requires.1.1.1.low c.loop-i.i c.loop-i-test.true)
 
 pub loop-i-preserved : goal.loop-i-preserved
-loop-i-preserved c =
-    (
-      omega arith,
-      written _ _ _ c.requires.1.1.1 c.loop-i.i c.loop-i.keys c.loop-i.invariant.1 c.loop-i-test.true _ _ _
-          c.wide-at.ensures c.ticket_at-k.ensures c.target_key.ensures,
-    )
+loop-i-preserved c = (
+  omega arith,
+  written _ _ _ c.requires.1.1.1 c.loop-i.i c.loop-i.keys c.loop-i.invariant.1 c.loop-i-test.true _ _ _
+      c.wide-at.ensures c.ticket_at-k.ensures c.target_key.ensures,
+)
 
 pub shape_of-keys : goal.shape_of-keys
 shape_of-keys c =

@@ -10,7 +10,6 @@ use Rattle.order_lists.proofs.Laws.{filled_none}
 use Rattle.order_recall_marks.proofs.KeySteps.{Written, written, all_written}
 use Rattle.order_recall_marks.proofs.write_keys.Given as goal
 
-
 abbrev pub invariant-loop-i : goal.invariant-loop-i
 invariant-loop-i l = (l.i ≤ length l.recalls) × Written l.numbers (tickets_in l.image) l.recalls l.i l.keys
 

@@ -1,7 +1,6 @@
 use Rattle.order_recalls.proofs.AllNone.{first_some, second_some, third}
 use Rattle.order_recalls.proofs.all_none.Goals as goal
 
-
 pub returns-then-a-ne0 : goal.returns-then-a-ne0
 returns-then-a-ne0 c = let a = c.args in first_some a.a a.b a.c c.if-a-ne0.true
 

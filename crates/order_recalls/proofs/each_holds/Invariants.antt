@@ -11,7 +11,6 @@ use Rattle.order_recalls.specs.Recalls.{LaidOut}
 use Rattle.order_recalls.proofs.OneRecall.{pick, has_key, Held, held_more, held_end, no_grant, bad_grant, near_none, near_bad, near_ok, not_given, far_none, far_bad, far_ok}
 use Rattle.order_recalls.proofs.each_holds.Given as goal
 
-
 abbrev pub invariant-loop-i : goal.invariant-loop-i
 invariant-loop-i l = (l.i ≤ length l.recalls) × ((t : Tables) → LaidOut t l.image l.numbers l.notes → Held t l.recalls l.i)
 

@@ -6,7 +6,6 @@ use borrow.Author.Rules.{rules}
 use Rattle.lists.proofs.Reading.{any_default}
 use Rattle.order_recalls.proofs.note_of.Goals as goal
 
-
 pub returns-then-key-ge256 : goal.returns-then-key-ge256
 returns-then-key-ge256 c = sym (get_or-eq_default c.args.notes.now 256 (omega (arith, c.requires, c.if-key-ge256.true)))
 

@@ -25,11 +25,10 @@ pub returns-then-not-each_holds : goal.returns-then-not-each_holds
 returns-then-not-each_holds c = λ t x. not_each x (failed (c.each_holds.ensures t x) (ap not c.if-not-each_holds.true))
 
 pub mark_places-requires : goal.mark_places-requires
-mark_places-requires c =
-    (
-      search rules,
-      (search rules, keys_listed c.args.numbers.now _ (tickets_in c.args.image.now) _ c.write_keys.ensures (tickets_long c.args.image.now) c.requires.1.1.1.0.1),
-    )
+mark_places-requires c = (
+  search rules,
+  (search rules, keys_listed c.args.numbers.now _ (tickets_in c.args.image.now) _ c.write_keys.ensures (tickets_long c.args.image.now) c.requires.1.1.1.0.1),
+)
 
 pub returns-then-not-mark_places : goal.returns-then-not-mark_places
 returns-then-not-mark_places c =
@@ -37,11 +36,10 @@ returns-then-not-mark_places c =
     (failed c.mark_places.ensures.once (ap not c.if-not-mark_places.true))
 
 pub dead_once-requires : goal.dead_once-requires
-dead_once-requires c =
-    (
-      search rules,
-      keys_listed c.args.numbers.now _ (tickets_in c.args.image.now) _ c.write_keys.ensures (tickets_long c.args.image.now) c.requires.1.1.1.0.1,
-    )
+dead_once-requires c = (
+  search rules,
+  keys_listed c.args.numbers.now _ (tickets_in c.args.image.now) _ c.write_keys.ensures (tickets_long c.args.image.now) c.requires.1.1.1.0.1,
+)
 
 pub returns-then-not-dead_once : goal.returns-then-not-dead_once
 returns-then-not-dead_once c =

@@ -9,7 +9,6 @@ use Rattle.image_read.specs.Places.{lasts_in}
 use Rattle.order_recalls.proofs.OneRecall.{not_given_pad, not_given_program, given_number}
 use Rattle.order_recalls.proofs.was_given.Goals as goal
 
-
 pub returns-then-n-gt3 : goal.returns-then-n-gt3
 returns-then-n-gt3 c =
     not_given_pad (lasts_in c.args.image.now) c.args.n c.if-n-gt3.true

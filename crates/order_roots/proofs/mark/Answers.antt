@@ -15,15 +15,14 @@ returns-then-marks-s-ne0 c =
     one_shared _ _ _ _ (hit _ _ _ _ c.loop-i.invariant.1.1 _ c.loop-i-test.true c.if-marks-s-ne0.true)
 
 pub loop-i-preserved : goal.loop-i-preserved
-loop-i-preserved c =
-    (
-      omega arith,
-      (
-        length-set c.loop-i.marks _ _ ∙ c.loop-i.invariant.1.0,
-        fresh_more _ _ _ _ c.loop-i.invariant.1.1
-            (omega (arith, c.requires, c.loop-i.invariant.1.0)) c.if-marks-s-ne0.false,
-      ),
-    )
+loop-i-preserved c = (
+  omega arith,
+  (
+    length-set c.loop-i.marks _ _ ∙ c.loop-i.invariant.1.0,
+    fresh_more _ _ _ _ c.loop-i.invariant.1.1
+        (omega (arith, c.requires, c.loop-i.invariant.1.0)) c.if-marks-s-ne0.false,
+  ),
+)
 
 pub returns : goal.returns
 returns c = all_fresh _ _ _ _ c.loop-i.i (omega arith) c.loop-i.invariant.1.1

@@ -7,7 +7,6 @@ use Rattle.order_roots.specs.Marks.{Fresh}
 use Rattle.order_roots.proofs.Marking.{fresh_none, fresh_more, hit, all_fresh, one_shared}
 use Rattle.order_roots.proofs.mark.Given as goal
 
-
 abbrev pub invariant-loop-i : goal.invariant-loop-i
 invariant-loop-i l = (l.i ≤ l.count) × ((length l.marks ≡ length l.initial.marks) × Fresh l.first l.i l.initial.marks l.marks)
 

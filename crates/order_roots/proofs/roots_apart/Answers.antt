@@ -31,15 +31,14 @@ returns-then-not-mark c =
     (c.mark.ensures.shared c.if-not-mark.true)
 
 pub loop-i-preserved : goal.loop-i-preserved
-loop-i-preserved c =
-    (
-      omega (arith, c.loop-i-test.true),
-      (
-        search rules,
-        λ sp. swept_more _ _ c.requires.1 c.loop-i.i c.loop-i-test.true _ (c.loop-i.invariant.1.1 sp) _ c.entry_at-e.ensures _
-            (c.mark.ensures.fresh c.if-not-mark.false) sp,
-      ),
-    )
+loop-i-preserved c = (
+  omega (arith, c.loop-i-test.true),
+  (
+    search rules,
+    λ sp. swept_more _ _ c.requires.1 c.loop-i.i c.loop-i-test.true _ (c.loop-i.invariant.1.1 sp) _ c.entry_at-e.ensures _
+        (c.mark.ensures.fresh c.if-not-mark.false) sp,
+  ),
+)
 
 pub returns : goal.returns
 returns c =

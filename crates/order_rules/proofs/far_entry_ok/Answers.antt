@@ -8,7 +8,6 @@ use mathlib.Core.Bool.{not}
 use mathlib.Core.Path.{ap}
 use Rattle.order_rules.proofs.far_entry_ok.Goals as goal
 
-
 pub returns-then-not-e : goal.returns-then-not-e
 unfolding implies
 returns-then-not-e c = rw (not-true c.args.e.live c.if-not-e.true)

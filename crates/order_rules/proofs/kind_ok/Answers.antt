@@ -4,7 +4,6 @@ use borrow.Author.Rules.{rules}
 use Rattle.tables.specs.Names.{eq_name}
 use Rattle.order_rules.proofs.kind_ok.Goals as goal
 
-
 pub returns-then-up-ne0 : goal.returns-then-up-ne0
 unfolding eq_name
 returns-then-up-ne0 c = rw (eq-eqb _ _ c.if-up-eq0.true, ne_eqb _ _ c.if-up-ne0.true)

@@ -8,7 +8,6 @@ use mathlib.Core.Bool.{not}
 use mathlib.Core.Path.{ap}
 use Rattle.order_rules.proofs.parent_entry_ok.Goals as goal
 
-
 pub returns-then-not-parent : goal.returns-then-not-parent
 unfolding parent_entry_ok
 returns-then-not-parent c = rw (not-true c.args.parent.live c.if-not-parent.true)

@@ -4,7 +4,6 @@ use borrow.Author.Rules.{rules}
 use Rattle.tables.specs.Order.{span_ok}
 use Rattle.order_rules.proofs.span_ok.Goals as goal
 
-
 pub returns-then-k-lt1 : goal.returns-then-k-lt1
 unfolding span_ok
 returns-then-k-lt1 c = rw (lt-leb _ _ c.if-k-lt1.true)

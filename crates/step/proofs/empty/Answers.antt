@@ -3,7 +3,6 @@ use borrow.Author.Rules.{rules}
 use Rattle.step.proofs.Emptying.{not_emptied, tables_emptied, all_emptied}
 use Rattle.step.proofs.empty.Goals as goal
 
-
 pub returns-then-tables-ne-IMAGE : goal.returns-then-tables-ne-IMAGE
 returns-then-tables-ne-IMAGE c = not_emptied c.args.tables.now c.args.store.now c.if-tables-ne-IMAGE.true
 

@@ -5,7 +5,6 @@ use borrow.Author.Rules.{rules}
 use Rattle.lending.proofs.Refusals.{tables_told, order_13, order_14, order_0}
 use Rattle.step.proofs.in_order.Goals as goal
 
-
 pub returns-then-tables-ne-IMAGE : goal.returns-then-tables-ne-IMAGE
 returns-then-tables-ne-IMAGE c = order_13 c.args.tables.now c.if-tables-ne-IMAGE.true
 

@@ -4,7 +4,6 @@ use borrow.Author.Rules.{rules}
 use Rattle.lending.proofs.Refusals.{other_store, other_sheet, then_order}
 use Rattle.step.proofs.refusal.Goals as goal
 
-
 pub returns-then-store-ne-STORE : goal.returns-then-store-ne-STORE
 returns-then-store-ne-STORE c = let a = c.args in other_store a.tables.now a.store a.sheet c.if-store-ne-STORE.true
 

@@ -2,7 +2,6 @@
 use borrow.Author.Tests.{eq-eqb, ne_eqb}
 use Rattle.test_rounds.proofs.is_answer.Goals as goal
 
-
 pub returns-then-a-res : goal.returns-then-a-res
 returns-then-a-res c = rw (ne_eqb _ _ c.if-a-res.true)
 

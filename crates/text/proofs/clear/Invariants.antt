@@ -7,7 +7,6 @@ use borrow.Author.Rules.{rules}
 use Rattle.lists.proofs.Front.{front, front_none, fill_more, fill_end}
 use Rattle.text.proofs.clear.Given as goal
 
-
 abbrev pub invariant-loop-i : goal.invariant-loop-i
 invariant-loop-i l =
     (l.i ≤ length l.initial.values) × ((length l.values ≡ length l.initial.values) × (l.values ≡ front l.i (replicate (length l.initial.values) 0) l.initial.values))

@@ -10,7 +10,6 @@ use Rattle.text.specs.Reading.{is_digit, number_from, number}
 use Rattle.text.proofs.NumberLaws.{digit_yes, digit_low, digit_high, number_from_lem, number_end, no_digit, too_large, in_range}
 use Rattle.text.proofs.digits_number.Given as goal
 
-
 abbrev pub invariant-loop-i : goal.invariant-loop-i
 invariant-loop-i l =
     (l.i ≤ length l.field) × ((l.n < 65536) × ((all is_digit l.field ≡ all is_digit (drop l.i l.field)) × (number l.field ≡ number_from l.n (drop l.i l.field))))

@@ -7,7 +7,6 @@ use Rattle.text.specs.FieldNumber.{number_or}
 use Rattle.text.proofs.NumberLaws.{no_field, one_digit, leading_zero, no_zero}
 use Rattle.text.proofs.field_number.Goals as goal
 
-
 pub returns-then-field-eq0 : goal.returns-then-field-eq0
 returns-then-field-eq0 c = no_field c.args.field.now c.if-field-eq0.true
 

@@ -19,12 +19,11 @@ returns-then-s-i c =
     c.loop-i.invariant.1
 
 pub loop-i-preserved : goal.loop-i-preserved
-loop-i-preserved c =
-    (
-      omega arith,
-      first_miss (λ x. eqb x c.args.byte) c.args.s.now 0 c.loop-i.i (omega arith)
-          (ne_eqb _ _ c.if-s-i.false) c.loop-i.invariant.1,
-    )
+loop-i-preserved c = (
+  omega arith,
+  first_miss (λ x. eqb x c.args.byte) c.args.s.now 0 c.loop-i.i (omega arith)
+      (ne_eqb _ _ c.if-s-i.false) c.loop-i.invariant.1,
+)
 
 pub returns : goal.returns
 returns c =

@@ -10,7 +10,6 @@ use Rattle.lists.specs.Lists.{first_index}
 use Rattle.lists.proofs.Loops.{first_hit, first_miss, first_end}
 use Rattle.text.proofs.find.Given as goal
 
-
 abbrev pub invariant-loop-i : goal.invariant-loop-i
 invariant-loop-i l =
     (l.i ≤ length l.s) × (first_index (λ x. eqb x l.byte) l.s ≡ l.i + first_index (λ x. eqb x l.byte) (drop l.i l.s))

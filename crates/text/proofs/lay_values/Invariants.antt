@@ -6,7 +6,6 @@ use borrow.Author.Rules.{rules}
 use Rattle.text.proofs.WritingSteps.{Laid, laid_none, laid_room, laid_more, laid_end}
 use Rattle.text.proofs.lay_values.Given as goal
 
-
 abbrev pub invariant-loop-i : goal.invariant-loop-i
 invariant-loop-i l = Laid l.values l.initial.out l.out l.at l.i
 

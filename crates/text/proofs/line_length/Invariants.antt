@@ -11,7 +11,6 @@ use Rattle.text.proofs.WritingSteps.{count_more, count_end}
 use Rattle.text.proofs.Appending.{counted_all, counted_most}
 use Rattle.text.proofs.line_length.Given as goal
 
-
 abbrev pub invariant-loop-i : goal.invariant-loop-i
 invariant-loop-i l =
     (l.i ≤ length l.values) × ((l.total ≤ highest_count) × (length (values_line l.values) ≡ l.total + length (values_line (drop l.i l.values))))

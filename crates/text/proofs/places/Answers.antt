@@ -3,7 +3,6 @@ use native.Mathlib.Omega.{arith}
 use Rattle.text.proofs.WritingLaws.{places_1, places_2, places_3, places_4, places_5}
 use Rattle.text.proofs.places.Goals as goal
 
-
 pub returns-then-n-lt10 : goal.returns-then-n-lt10
 returns-then-n-lt10 c = places_1 _ (omega arith)
 

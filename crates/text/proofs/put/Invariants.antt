@@ -8,7 +8,6 @@ use Rattle.lists.proofs.Front.{front, front_none, front_more, front_over}
 use Rattle.text.proofs.WritingLaws.{writes_none, writes_all}
 use Rattle.text.proofs.put.Given as goal
 
-
 abbrev pub invariant-loop-i : goal.invariant-loop-i
 invariant-loop-i l = (l.i ≤ length l.text) × ((length l.out ≡ length l.initial.out) × (l.out ≡ front l.i l.text l.initial.out))
 

@@ -9,7 +9,6 @@ use Rattle.text.specs.Writing.{digits}
 use Rattle.text.proofs.WritingLaws.{digits_more, digits_none}
 use Rattle.text.proofs.put_digits.Given as goal
 
-
 abbrev pub invariant-loop-i : goal.invariant-loop-i
 invariant-loop-i l =
     (l.i ≤ length l.out) × ((length l.out ≡ length l.initial.out) × (digits l.i l.rest ++ drop l.i l.out ≡ digits l.count l.n ++ drop l.count l.initial.out))

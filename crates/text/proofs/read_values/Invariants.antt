@@ -9,7 +9,6 @@ use Rattle.text.specs.Reading.{value_in}
 use Rattle.text.proofs.ReadingSteps.{SoFar, none_yet, all_read, is_other, told, told_other, end_inside, last_few, last_form, last_values, and_more}
 use Rattle.text.proofs.read_values.Given as goal
 
-
 abbrev pub invariant-loop-i : goal.invariant-loop-i
 invariant-loop-i l = SoFar l.line (length l.initial.values) l.values l.at l.i
 

@@ -8,7 +8,6 @@ use Rattle.text.specs.Bytes.{same_bytes}
 use Rattle.text.proofs.NamesLaws.{other_length, same_from, differ_here, same_end}
 use Rattle.text.proofs.same.Given as goal
 
-
 abbrev pub invariant-loop-i : goal.invariant-loop-i
 invariant-loop-i l =
     (l.i ≤ length l.a) × ((length l.b ≡ length l.a) × (same_bytes l.a l.b ≡ same_bytes (drop l.i l.a) (drop l.i l.b)))

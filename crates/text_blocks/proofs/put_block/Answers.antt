@@ -6,7 +6,6 @@ use Rattle.saved_blocks.proofs.BlockLaws.{block_tickets, block_entries}
 use Rattle.text_blocks.proofs.Rounds.{block_room, block_put, last_room, last_put}
 use Rattle.text_blocks.proofs.put_block.Goals as goal
 
-
 pub put_last-requires : goal.put_last-requires
 put_last-requires c =
     let t = decode c.args.image.now in

@@ -8,7 +8,6 @@ use Rattle.text_blocks.proofs.Going.{last, Going, going_none, going_end, going_r
 use Rattle.text_blocks.proofs.Chosen.{tickets}
 use Rattle.text_blocks.proofs.put_tickets.Given as goal
 
-
 abbrev pub invariant-loop-i : goal.invariant-loop-i
 invariant-loop-i l =
     Going l.image (of_kind l.kind) (ticket_line (decode l.image)) l.program l.initial.out l.at l.numbers l.out l.end l.after l.i

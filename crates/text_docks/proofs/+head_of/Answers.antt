@@ -10,7 +10,6 @@ use Rattle.image.specs.Image.{decode}
 use Rattle.text_docks.proofs.Walk.{out_of_places, ends_here, goes_up}
 use Rattle.text_docks.proofs.+head_of.Goals as goal
 
-
 more : {n : ℕ} → (n ≡ 0 → ⊥) → 0 < n
 more h = omega (arith, h)
 

@@ -7,7 +7,6 @@ use Rattle.image.proofs.RoundTrip.{image_whole}
 use Rattle.text_docks.proofs.Docking.{Docking, begins, ends, dock_put, none_put}
 use Rattle.text_docks.proofs.put_docks.Given as goal
 
-
 abbrev pub invariant-loop-place : goal.invariant-loop-place
 invariant-loop-place l = Docking l.initial.image l.image l.place
 

@@ -53,8 +53,11 @@ returns-then-r-eq5 c =
     let o = c.requires.1.1.0 in
     let e = c.sort_of-sort.ensures in
     let tally = c.args.tally.now in
-    let k = is_entry_row_lem r c.if-r-eq5.true in record { tallied = λ before t. tallied before r o tally t _ _ e refl; filled = λ before t f. filled_entry before r c.args.image.now _ f k _ (entry_place_lem before r o tally t _ _ e c.wide.ensures k) _ c.entry_in.ensures
-          c.put_entry.ensures }
+    let k = is_entry_row_lem r c.if-r-eq5.true in record {
+      tallied = λ before t. tallied before r o tally t _ _ e refl;
+      filled = λ before t f. filled_entry before r c.args.image.now _ f k _ (entry_place_lem before r o tally t _ _ e c.wide.ensures k) _ c.entry_in.ensures
+          c.put_entry.ensures;
+    }
 
 pub overflow_sub-place : goal.overflow_sub-place
 overflow_sub-place c =
@@ -88,5 +91,8 @@ returns c =
     let o = c.requires.1.1.0 in
     let e = c.sort_of-sort.ensures in
     let tally = c.args.tally.now in
-    let k = is_ticket_row_lem r o c.if-r-eq0.false c.if-r-eq5.false in record { tallied = λ before t. tallied before r o tally t _ _ e refl; filled = λ before t f. filled_ticket before r c.args.image.now _ f k _ (ticket_place before r o tally t _ _ e c.wide-2.ensures k) _ c.ticket_in.ensures
-          c.put_ticket.ensures }
+    let k = is_ticket_row_lem r o c.if-r-eq0.false c.if-r-eq5.false in record {
+      tallied = λ before t. tallied before r o tally t _ _ e refl;
+      filled = λ before t f. filled_ticket before r c.args.image.now _ f k _ (ticket_place before r o tally t _ _ e c.wide-2.ensures k) _ c.ticket_in.ensures
+          c.put_ticket.ensures;
+    }

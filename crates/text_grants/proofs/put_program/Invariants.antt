@@ -5,7 +5,6 @@ use borrow.Author.Rules.{rules}
 use Rattle.text_grants.proofs.Grants.{last, Going, going_none, going_end, going_rises, going_given, going_sheets, going_fits, going_more}
 use Rattle.text_grants.proofs.put_program.Given as goal
 
-
 abbrev pub invariant-loop-i : goal.invariant-loop-i
 invariant-loop-i l =
     Going l.image l.initial.marks l.initial.out (record { end = l.initial.end; sheets = l.initial.sheets }) l.program l.numbers l.marks l.out l.end l.sheets l.after l.i

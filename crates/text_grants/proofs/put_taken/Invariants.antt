@@ -4,7 +4,6 @@ use borrow.Author.Rules.{rules}
 use Rattle.text_grants.proofs.Programs.{Round, round_none, round_end, round_ready, round_few, round_more}
 use Rattle.text_grants.proofs.put_taken.Given as goal
 
-
 abbrev pub invariant-loop-program : goal.invariant-loop-program
 invariant-loop-program l =
     Round l.image l.initial.marks l.initial.out l.at l.marks l.out l.printing l.program

@@ -11,7 +11,6 @@ use Rattle.lists.proofs.PartLaws.{every_intro, every_broken}
 use Rattle.saved.specs.Save.{programs}
 use Rattle.text_load.proofs.all_programs.Goals as goal
 
-
 none_counted : (n : ℕ) → n ≡ 0 → ltb 0 n ≡ false
 none_counted n e = le-ltb 0 n (omega (arith, e))
 
@@ -35,11 +34,10 @@ pub loop-i-smaller : goal.loop-i-smaller
 loop-i-smaller c = omega (arith, c.loop-i-test.true)
 
 pub loop-i-preserved : goal.loop-i-preserved
-loop-i-preserved c =
-    (
-      omega (arith, c.loop-i-test.true),
-      so_far c.loop-i.i c.loop-i.invariant.1 (lt-ltb 0 _ (positive _ c.if-tally-i-eq0.false)),
-    )
+loop-i-preserved c = (
+  omega (arith, c.loop-i-test.true),
+  so_far c.loop-i.i c.loop-i.invariant.1 (lt-ltb 0 _ (positive _ c.if-tally-i-eq0.false)),
+)
 
 pub returns : goal.returns
 unfolding programs

@@ -11,7 +11,6 @@ use lib.ListN.{replicate}
 use mathlib.Core.Bool.{not}
 use Rattle.text_load.proofs.load_lent.Goals as goal
 
-
 pub returns-then-tables-ne-IMAGE : goal.returns-then-tables-ne-IMAGE
 returns-then-tables-ne-IMAGE c =
     other_length c.args.tables.now c.args.text.now c.if-tables-ne-IMAGE.true

@@ -13,7 +13,6 @@ use Rattle.text_load.proofs.Lines.{row_in_form, key_low, not_above, no_room, may
 use mathlib.Core.Bool.{not}
 use Rattle.text_load.proofs.read_lines.Goals as goal
 
-
 -- a key as the code compares it
 lower : {k n a b : ℕ} → k ≡ a → n ≡ b → k < n → a < b
 lower e f h = omega (arith, e, f, h)

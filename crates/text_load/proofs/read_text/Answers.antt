@@ -11,7 +11,6 @@ use mathlib.Core.Bool.{not}
 use mathlib.Core.Path.{ap}
 use Rattle.text_load.proofs.read_text.Goals as goal
 
-
 -- GONE slice-aggregate-first-line
 -- slice-aggregate-first-line : tie.Need-slice-aggregate-first-line
 -- slice-aggregate-first-line c = search rules

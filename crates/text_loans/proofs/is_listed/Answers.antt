@@ -7,7 +7,6 @@ use Rattle.tables.specs.declared.{Name.Name, Ticket.Ticket}
 use Rattle.text_loans.proofs.Places.{near_target, far_target}
 use Rattle.text_loans.proofs.is_listed.Goals as goal
 
-
 pub ticket_at-k-requires : goal.ticket_at-k-requires
 ticket_at-k-requires c = (c.requires.0.long, c.requires.1.here.low)
 

@@ -7,7 +7,6 @@ use Rattle.image_read.specs.Places.{tickets_in}
 use Rattle.image_numbers.specs.Numbers.{numbers_in}
 use Rattle.text_loans.proofs.loan_numbers.Goals as goal
 
-
 pub ticket_at-k-requires : goal.ticket_at-k-requires
 ticket_at-k-requires c = (c.requires.0.long, c.requires.1.here.low)
 

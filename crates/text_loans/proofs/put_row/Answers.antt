@@ -9,7 +9,6 @@ use Rattle.text.proofs.Appending.{append_as}
 use Rattle.text_loans.proofs.Places.{row_values}
 use Rattle.text_loans.proofs.put_row.Goals as goal
 
-
 pub ticket_at-k-requires : goal.ticket_at-k-requires
 ticket_at-k-requires c = (c.requires.0.long, c.requires.1.0.here.low)
 

@@ -6,7 +6,6 @@ use lib.ListN.{length, replicate, length-set}
 use Rattle.lists.proofs.Front.{front, front_none, fill_more, fill_end}
 use Rattle.text_marks.proofs.clear.Given as goal
 
-
 abbrev pub invariant-loop-i : goal.invariant-loop-i
 invariant-loop-i l =
     (l.i ≤ length l.initial.marks) × ((length l.marks ≡ length l.initial.marks) × (l.marks ≡ front l.i (replicate (length l.initial.marks) 0) l.initial.marks))

@@ -13,7 +13,6 @@ use Rattle.image_numbers.specs.Numbers.{number_if, numbers_in}
 use Rattle.saved_blocks.specs.Blocks.{has_entry}
 use Rattle.text_notes.proofs.entry_numbers.Given as goal
 
-
 abbrev pub wanted : List ℕ → ℕ → ℕ → ℕ
 wanted image program j = number_if (has_entry (decode image)) (get_or (tickets_in image) (8 * program + j) free)
 

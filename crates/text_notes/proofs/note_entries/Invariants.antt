@@ -10,7 +10,6 @@ use Rattle.image.specs.Image.{decode}
 use Rattle.text_notes.proofs.Noting.{place, NotesTo, is_live_lem, not_live, notes_none, notes_skip, place_low_lem, notes_more, notes_end}
 use Rattle.text_notes.proofs.note_entries.Given as goal
 
-
 abbrev pub invariant-loop-i : goal.invariant-loop-i
 invariant-loop-i l = NotesTo l.image l.notes l.i
 

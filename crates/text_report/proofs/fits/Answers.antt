@@ -12,7 +12,6 @@ use Rattle.report.specs.Report.{report}
 use Rattle.report.proofs.Short.{report_short}
 use Rattle.text_report.proofs.fits.Goals as goal
 
-
 pub returns-then-room-ge-ROOM : goal.returns-then-room-ge-ROOM
 returns-then-room-ge-ROOM c =
     let image = c.args.image.now in

@@ -5,7 +5,6 @@ use Prim.Native.Nat.{◌-◌}
 use borrow.Author.Rules.{rules}
 use Rattle.text_rows.proofs.row_ok.Goals as goal
 
-
 pub returns-then-r-gt5 : goal.returns-then-r-gt5
 unfolding row_ok
 returns-then-r-gt5 c = rw (lt-leb _ _ c.if-r-gt5.true)

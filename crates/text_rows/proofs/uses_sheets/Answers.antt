@@ -7,7 +7,6 @@ use borrow.Author.Tests.{le-leb, lt-leb, ne_eqb}
 use Rattle.lists.specs.Tests.{between}
 use Rattle.text_rows.proofs.uses_sheets.Goals as goal
 
-
 not_five : (k : ℕ) → k < 1 → eqb k 5 ≡ false
 not_five k h = ne_eqb k 5 (λ e. omega (arith, e))
 

@@ -12,7 +12,6 @@ use Rattle.saved.specs.Save.{saved}
 use Rattle.text_save.proofs.WholeText.{text_short}
 use Rattle.text_save.proofs.fits.Goals as goal
 
-
 pub returns-then-room-ge-ROOM : goal.returns-then-room-ge-ROOM
 returns-then-room-ge-ROOM c =
     let image = c.args.image.now in

@@ -8,7 +8,6 @@ use mathlib.Core.Bool.{not}
 use mathlib.Core.Path.{ap}
 use Rattle.text_save.proofs.save_lent.Goals as goal
 
-
 pub returns-then-tables-ne-IMAGE : goal.returns-then-tables-ne-IMAGE
 returns-then-tables-ne-IMAGE c =
     let a = c.args in

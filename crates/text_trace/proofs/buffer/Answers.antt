@@ -4,6 +4,5 @@ use lib.ListN.{length-replicate}
 use Rattle.trace_texts.specs.Trace.{trace_room}
 use Rattle.text_trace.proofs.buffer.Goals as goal
 
-
 pub returns : goal.returns
 returns c = length-replicate {A = ℕ} trace_room 0

@@ -6,7 +6,6 @@ use lib.ListN.{length, length-set}
 use Rattle.lists.proofs.Front.{front, front_none, front_more, front_end}
 use Rattle.text_trace.proofs.copy.Given as goal
 
-
 abbrev pub invariant-loop-i : goal.invariant-loop-i
 invariant-loop-i l = (l.i ≤ length l.from) × ((length l.to ≡ length l.initial.to) × (l.to ≡ front l.i l.from l.initial.to))
 

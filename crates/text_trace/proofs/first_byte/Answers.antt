@@ -5,7 +5,6 @@ use borrow.Author.Tests.{eq-eqb, ne_eqb}
 use Rattle.lists.proofs.Tests.{and_false}
 use Rattle.text_trace.proofs.first_byte.Goals as goal
 
-
 pub returns-then-op-ne5 : goal.returns-then-op-ne5
 returns-then-op-ne5 c = rw (ne_eqb c.args.op 5 c.if-op-ne5.true)
 

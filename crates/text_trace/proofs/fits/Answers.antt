@@ -15,7 +15,6 @@ use Rattle.trace_texts.proofs.AnswersLaws.{trace_short_from}
 use Rattle.text_trace.proofs.LineServed.{same_ready}
 use Rattle.text_trace.proofs.fits.Goals as goal
 
-
 pub returns-then-room-ge-ROOM : goal.returns-then-room-ge-ROOM
 returns-then-room-ge-ROOM c =
     let a = c.args in

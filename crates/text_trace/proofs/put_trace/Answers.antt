@@ -14,7 +14,6 @@ use Rattle.text_trace.proofs.WholeTrace.{too_long, other_names, is_ok, end_insid
 use Rattle.text_trace.proofs.WholeTrace.{served_answers, served_fits, served_leaves, refused_leaves}
 use Rattle.text_trace.proofs.put_trace.Goals as goal
 
-
 -- GONE slice-aggregate-append
 -- slice-aggregate-append : tie.Need-slice-aggregate-append
 -- slice-aggregate-append c = search rules

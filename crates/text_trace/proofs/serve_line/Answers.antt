@@ -25,8 +25,11 @@ returns-then-not-a c =
     let bytes = a.store.now in
     let line = a.line.now in
     let other = not-true _ c.if-not-a.true in
-    let text = other_text image bytes line a.number _ c.read_line-a.ensures other in record { appends = append_as _ _ _ _ _ _ (sym text) c.append_other.ensures; leaves_dock = other_holds image bytes line a.number _ c.read_line-a.ensures other
-          (same_dock image bytes (λ j. omega (arith, c.slice_known-1.given j)) p.0) }
+    let text = other_text image bytes line a.number _ c.read_line-a.ensures other in record {
+      appends = append_as _ _ _ _ _ _ (sym text) c.append_other.ensures;
+      leaves_dock = other_holds image bytes line a.number _ c.read_line-a.ensures other
+          (same_dock image bytes (λ j. omega (arith, c.slice_known-1.given j)) p.0);
+    }
 
 pub request-answer-requires : goal.request-answer-requires
 request-answer-requires c =

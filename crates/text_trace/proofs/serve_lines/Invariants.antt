@@ -9,7 +9,6 @@ use Rattle.lending.specs.Trace.{dock_of}
 use Rattle.text_trace.proofs.TraceSteps.{Going, begins, ends, end_holds, line_inside, line_bound, next}
 use Rattle.text_trace.proofs.serve_lines.Given as goal
 
-
 abbrev pub invariant-loop-from : goal.invariant-loop-from
 invariant-loop-from l =
     Going (dock_of l.initial.tables l.initial.store) l.input l.start l.initial.out l.at l.tables l.store l.out l.from l.done l.total

@@ -9,7 +9,6 @@ use Rattle.text.proofs.Appending.{write_tested, refuse_tested}
 use Rattle.text_trace.proofs.WholeTrace.{zeros_ready, from_zeros}
 use Rattle.text_trace.proofs.trace.Goals as goal
 
-
 pub slice_bounds-fits-end : goal.slice_bounds-fits-end
 slice_bounds-fits-end c = sym (length-replicate {A = ℕ} image_size 0)
 

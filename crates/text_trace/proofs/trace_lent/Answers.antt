@@ -9,7 +9,6 @@ use mathlib.Core.Bool.{not}
 use mathlib.Core.Path.{ap}
 use Rattle.text_trace.proofs.trace_lent.Goals as goal
 
-
 pub returns-then-tables-ne-IMAGE : goal.returns-then-tables-ne-IMAGE
 returns-then-tables-ne-IMAGE c =
     let a = c.args in

@@ -4,7 +4,6 @@ use borrow.Author.Rules.{rules}
 use Rattle.tables.specs.Sheets.{inside}
 use Rattle.order_rules.proofs.Span.is_inside.Goals as goal
 
-
 pub returns-then-self-other : goal.returns-then-self-other
 unfolding inside
 returns-then-self-other c = rw (lt-leb _ _ c.if-self-other.true)

@@ -4,7 +4,6 @@ use borrow.Author.Rules.{rules}
 use Rattle.tables.proofs.EntryNamed.{other_number, other_name, same_name}
 use Rattle.tables.proofs.Entry.is_named.Goals as goal
 
-
 pub returns-then-name-n : goal.returns-then-name-n
 returns-then-name-n c = other_number c.args.self c.args.n c.if-name-n.true
 

@@ -5,7 +5,6 @@ use Rattle.tables.specs.declared.Name.{Name}
 use Rattle.tables.specs.Names.{eq_name}
 use Rattle.tables.proofs.Name.is.Goals as goal
 
-
 same_when : (a b : Name) → a.pad ≡ b.pad → a.program ≡ b.program → eqb a.number b.number ≡ eq_name a b
 unfolding eq_name
 same_when a b p q = rw (eq-eqb a.pad b.pad p, eq-eqb a.program b.program q)

@@ -9,7 +9,6 @@ use Rattle.tables.specs.Lookup.{has_number}
 use Rattle.tables.specs.Kinds.{is_live}
 use Rattle.tables.proofs.Ticket.has_number.Goals as goal
 
-
 of_live : (k : Ticket) (n : ℕ) → is_live k.kind ≡ true → eqb k.number n ≡ has_number n k
 unfolding has_number
 of_live k n l = rw l
