@@ -6,7 +6,7 @@ use mathlib.Core.Bool.{Bool, true, false, not, ◌&&◌, ◌||◌, cond}
 use mathlib.Core.List.{List, [], ◌∷◌}
 use lib.Dec.{leb, ltb, eqb}
 use borrow.Author.Tests.{lt-ltb, ltb-true, ltb-false}
-use Rattle.lists.specs.Lists.{all, keep, least}
+use Rattle.lists.specs.Lists.{all, keep}
 use Rattle.lists.proofs.Tests.{Case, pass, fail, case, contradiction, cannot_pass, cannot_fail, or_right, not_test, both_ways}
 use Rattle.lists.proofs.Search.{least_passes, least_below}
 use Rattle.tables.specs.declared.Entry.{Entry}

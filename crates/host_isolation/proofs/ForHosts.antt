@@ -2,13 +2,12 @@
 -- from the emptied dock, those since a loading of one from the text's tables; and `isolation` and `isolated_from_loaded` speak of such sequences.
 use Prim.Native.Nat.{ℕ}
 use mathlib.Core.Path.{◌≡◌, refl, sym, ap, ◌∙◌, subst}
-use mathlib.Core.Bool.{Bool, true, false, not, ◌||◌, cond}
+use mathlib.Core.Bool.{Bool, true, false, ◌||◌, cond}
 use mathlib.Core.List.{List, [], ◌∷◌, ◌++◌, map}
-use Rattle.lists.specs.Lists.{all, some}
+use Rattle.lists.specs.Lists.{some}
 use Rattle.lists.proofs.Tests.{Case, pass, fail, case, contradiction, or_right, or_left, or_false_l, or_false_r}
 use Rattle.machine.specs.State.{State}
 use Rattle.machine.specs.Empty.{empty_dock}
-use Rattle.machine.specs.Step.{step}
 use Rattle.machine.specs.Sequence.{Sent, after, Group, group_exchanges}
 use Rattle.machine.specs.Isolation as claim
 use Rattle.machine.specs.Isolation.{no_left, no_right}

@@ -1,21 +1,20 @@
 -- A chain on a pad has at most 31 links. Each child on it has its recall, on the same pad, and the recalls are neither grants nor one
 -- another: a chain of d links needs 2 d + 1 of the pad's 64 places.
-use Prim.Native.Nat.{ℕ, suc, ◌+◌, ◌*◌, ◌-◌, ◌≤◌, ◌<◌}
+use Prim.Native.Nat.{ℕ, suc, ◌+◌, ◌-◌, ◌≤◌, ◌<◌}
 use native.Mathlib.Omega.{arith}
 use mathlib.Core.Path.{◌≡◌, refl, sym, ap, ◌∙◌, subst}
 use mathlib.Core.Logic.{◌⊎◌, inl, inr}
-use mathlib.Core.Bool.{true, false, cond}
+use mathlib.Core.Bool.{true}
 use lib.Dec.{eqb, leb}
 use borrow.Author.Tests.{eqb-true, eqb-false, leb-true, leb-false}
 use Rattle.lists.proofs.Tests.{Case, pass, fail, case, no_true, contradiction}
 use Rattle.lists.proofs.Pigeonhole.{pigeonhole}
-use Rattle.tables.specs.declared.{Name.Name, Ticket.Ticket, Tables.Tables}
+use Rattle.tables.specs.declared.{Name.Name, Tables.Tables}
 use Rattle.tables.specs.Kinds.{is_live, is_grant, is_head, is_child, is_recall}
-use Rattle.tables.specs.Names.{is_none}
 use Rattle.tables.specs.Lookup.{last_of, lookup, entry_of}
 use Rattle.tables.specs.Chains.{parent_of, chain_links}
 use Rattle.tables.proofs.KindLaws.{live_grant, live_recall, grant_recall, grant_sort, head_up}
-use Rattle.preservation.specs.Rules.{Recalled, Ends, here, up}
+use Rattle.preservation.specs.Rules.{Recalled, Ends, up}
 use Rattle.preservation.specs.InOrder.{InOrder}
 use Rattle.preservation.proofs.Walks.{ends_unique, link, link_ends, link_good, links_are}
 use Rattle.preservation.proofs.RuleFacts.{parent_grant}

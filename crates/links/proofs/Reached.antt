@@ -12,18 +12,14 @@ use Rattle.tables.specs.Names.{name_of, eq_name, is_program, same_program, empty
 use Rattle.tables.specs.Lookup.{has_number, ticket_in, lookup, is_named, entry_in}
 use Rattle.tables.specs.Chains.{reaches, end_of, links_of, chain_links}
 use Rattle.tables.specs.Sheets.{apart, inside, outside, is_free_run, lowest_run, has_run}
-use Rattle.tables.specs.Order.{every_ticket_of, every_ticket, some_ticket_of, some_ticket, every_entry, numbers_ok, t1, span_ok, t2, parent_ok, child_ok, t3, t4, entry_names_ok, grant_ok, parent_entry_ok, entry_ok, roots_ok, t5, recall_parent_ok, is_child_of, far_target_ok, target_ok, recall_ok, t6, in_order}
-use Rattle.tables.specs.Change.{is_free, has_place, with_ticket, with_program, give, is_spare, put_entry, drop_ticket, drop_in_program, drop_in_pad, drop_tickets, drop_entry, drop_entries}
+use Rattle.tables.specs.Change.{is_free, has_place, with_ticket, with_program, give, is_spare, put_entry}
 use Rattle.best_fit.specs.BestFit.{run_at, smallest_below, best_fit}
 use Rattle.machine.specs.State.{State, Outcome, accepted, refused, with_tables, sheet_at, put_sheets, clear_sheets}
 use Rattle.machine.specs.Refusal.{◌when◌else◌, is_spent}
 use Rattle.machine.specs.Operation.{operation_of, used_by, field_ok, fields_ok}
 use Rattle.machine.specs.Take.{take_refusal, take_tables, after_take}
 use Rattle.machine.specs.Pass.{pass_refusal, pass_tables, after_pass}
-use Rattle.machine.specs.Recall.{recall_refusal, lent_away, recall_tables, after_recall}
-use Rattle.machine.specs.Dock.{dock_refusal}
-use Rattle.machine.specs.Access.{access_refusal, after_read, after_write}
-use Rattle.machine.specs.Step.{own_refusal, request_refusal, lengths_ok, refusal, after_own, drop_head, outcome, step, serve}
+use Rattle.machine.specs.Step.{own_refusal, request_refusal, after_own, outcome, serve}
 use Rattle.machine.specs.Empty.{empty_dock}
 use Rattle.machine.specs.Sequence.{Sent, enter, after}
 use Rattle.preservation.proofs.OrderPassesTest.{order_passes_test}

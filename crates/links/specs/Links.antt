@@ -5,7 +5,6 @@ use Rattle.tables.specs.Kinds.{is_grant}
 use Rattle.tables.specs.Lookup.{Sized, lookup}
 use Rattle.tables.specs.Chains.{chain_links}
 use Rattle.tables.specs.Order.{in_order}
-use Rattle.machine.specs.State.{State}
 use Rattle.machine.specs.Empty.{empty_dock}
 use Rattle.machine.specs.Sequence.{Sent, after}
 

@@ -1,11 +1,11 @@
 -- Counting: sums over the numbers below n, how many elements of a list pass, two sums exchanged.
-use Prim.Native.Nat.{ℕ, zero, suc, ◌+◌, ◌-◌, ◌≤◌, ◌<◌}
+use Prim.Native.Nat.{ℕ, zero, suc, ◌+◌, ◌≤◌, ◌<◌}
 use native.Mathlib.Omega.{arith}
 use mathlib.Core.Path.{◌≡◌, refl, sym, ap, subst, ◌∙◌}
 use mathlib.Core.Bool.{Bool, true, false, cond}
 use mathlib.Core.List.{List, [], ◌∷◌, ◌++◌}
 use Rattle.lists.proofs.Tests.{Case, pass, fail, case}
-use Rattle.lists.specs.Members.{In, first, later, Once, none, more}
+use Rattle.lists.specs.Members.{In, first, later, Once, more}
 use Rattle.lists.specs.Lists.{count_of, total, count_below}
 
 abbrev pub one : Bool → ℕ

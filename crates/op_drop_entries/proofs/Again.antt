@@ -10,7 +10,7 @@ use Rattle.lists.proofs.Keyed.{drop_found, drop_distinct, dropped_at, dropped_le
 use Rattle.tables.specs.declared.{Name.Name, Entry.Entry}
 use Rattle.tables.specs.Names.{is_none, no_entry}
 use Rattle.tables.specs.Lookup.{is_named, entry_in}
-use Rattle.tables.specs.Chains.{reaches, entry_parent}
+use Rattle.tables.specs.Chains.{entry_parent}
 use Rattle.tables.specs.Change.{drop_entry}
 use Rattle.tables.proofs.Keys.{entry_keys, entry_laws}
 use Rattle.tables.proofs.ByPlace.{at}

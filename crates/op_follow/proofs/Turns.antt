@@ -7,7 +7,7 @@ use mathlib.Core.List.{List, map}
 use lib.ListN.{get_or}
 use Rattle.lists.proofs.Tests.{Case, pass, fail, case, or_left, or_right, and_l, and_r, and_intro}
 use Rattle.tables.proofs.Keys.{drop_no_entry}
-use Rattle.tables.specs.declared.{Name.Name, Ticket.Ticket, Entry.Entry, Tables.Tables}
+use Rattle.tables.specs.declared.{Name.Name, Ticket.Ticket, Tables.Tables}
 use Rattle.tables.specs.Names.{is_none}
 use Rattle.tables.specs.Lookup.{entry_in}
 use Rattle.tables.specs.Chains.{at_or_below}

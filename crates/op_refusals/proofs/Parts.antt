@@ -3,9 +3,9 @@ use Prim.Native.Nat.{ℕ, ◌+◌, ◌<◌}
 use native.Mathlib.Omega.{arith}
 use mathlib.Core.Path.{◌≡◌, refl, sym, ◌∙◌}
 use mathlib.Core.Bool.{Bool, true, false, not, ◌||◌}
-use lib.Dec.{leb, eqb}
+use lib.Dec.{leb}
 use borrow.Author.Tests.{ne_eqb, leb-false}
-use Rattle.lists.proofs.Tests.{pass, or_false_l, or_false_r}
+use Rattle.lists.proofs.Tests.{or_false_l, or_false_r}
 use Rattle.rights.specs.Rules.{rights_of}
 use Rattle.tables.specs.declared.{Ticket.Ticket, Tables.Tables}
 use Rattle.tables.specs.Change.{has_place}

@@ -7,7 +7,6 @@ use mathlib.Core.List.{List}
 use lib.ListN.{length, get_or}
 use Rattle.lists.proofs.Tests.{and_intro, implies_intro}
 use Rattle.lists.specs.Tests.{implies}
-use Rattle.lists.specs.Lists.{all}
 use Rattle.lists.proofs.Everywhere.{all_intro}
 use Rattle.tables.specs.declared.{Ticket.Ticket, Entry.Entry, Tables.Tables}
 use Rattle.tables.specs.Kinds.{is_child, is_recall}

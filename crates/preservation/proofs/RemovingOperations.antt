@@ -1,12 +1,12 @@
 -- The operations that remove keep the order: recall (on the same pad and across pads), give back, and the drop on 12. Each is an
 -- instance of the removal theorem; what is shown is that what goes is closed.
 use Prim.Native.Nat.{ℕ}
-use mathlib.Core.Path.{◌≡◌, refl, sym, ap, ◌∙◌, subst, fun_ext}
+use mathlib.Core.Path.{◌≡◌, sym, ap, ◌∙◌, subst, fun_ext}
 use mathlib.Core.Bool.{Bool, true, false, ◌||◌}
 use lib.Dec.{eqb}
 use borrow.Author.Tests.{eqb-true, eqb-false}
 use Rattle.lists.proofs.Tests.{Case, pass, fail, case, no_true, contradiction, or_right}
-use Rattle.tables.specs.declared.{Name.Name, Entry.Entry, Tables.Tables}
+use Rattle.tables.specs.declared.{Name.Name, Tables.Tables}
 use Rattle.tables.specs.Names.{eq_name, is_none}
 use Rattle.tables.specs.Lookup.{last_of, lookup, entry_of}
 use Rattle.tables.specs.Chains.{own_name, parent_of, at_or_under, chain_head, at_or_below}

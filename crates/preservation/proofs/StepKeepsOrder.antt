@@ -9,7 +9,6 @@ use lib.Dec.{eqb}
 use lib.ListN.{length, replicate, length-replicate}
 use borrow.Author.Tests.{eqb-true, eq-eqb}
 use Rattle.lists.proofs.Tests.{Case, pass, fail, case}
-use Rattle.tables.specs.declared.Tables.{Tables}
 use Rattle.tables.specs.Lookup.{Sized}
 use Rattle.tables.specs.Order.{in_order}
 use Rattle.tables.proofs.KindLaws.{taken_head, head_grant}

@@ -5,12 +5,11 @@ use native.Mathlib.Nat.{le_of_suc-le-suc}
 use mathlib.Core.Path.{◌≡◌, refl, sym, ap, subst, ◌∙◌}
 use mathlib.Core.Logic.{◌⊎◌, inl, inr}
 use mathlib.Core.Bool.{true, false, cond}
-use mathlib.Core.List.{List}
 use lib.Dec.{eqb}
 use borrow.Author.Tests.{eqb-true, eqb-false}
 use Rattle.lists.proofs.Tests.{Case, pass, fail, case, and_l, and_r, and_intro, contradiction}
 use Rattle.lists.proofs.Pigeonhole.{pigeonhole}
-use Rattle.tables.specs.declared.{Name.Name, Entry.Entry, Tables.Tables}
+use Rattle.tables.specs.declared.{Name.Name, Tables.Tables}
 use Rattle.tables.specs.Kinds.{is_live, is_grant, is_head, is_taken, is_received, is_child, is_recall}
 use Rattle.tables.specs.Names.{is_none}
 use Rattle.tables.specs.Lookup.{last_of, lookup, entry_of, place_of}

@@ -1,17 +1,17 @@
 -- Who is lent by whom: a loan has one lender, and every listed grant is reached from a taken one.
 use mathlib.Core.Path.{◌≡◌, refl, sym, ap, subst, ◌∙◌}
 use mathlib.Core.Bool.{true}
-use mathlib.Core.List.{List, map}
+use mathlib.Core.List.{map}
 use lib.Dec.{eqb}
 use borrow.Author.Tests.{eqb-true, eq-eqb}
-use Rattle.lists.proofs.Tests.{pass, and_l, and_r, and_intro}
+use Rattle.lists.proofs.Tests.{and_l, and_r, and_intro}
 use Rattle.tables.specs.declared.{Name.Name, Tables.Tables}
 use Rattle.tables.specs.Kinds.{is_recall}
 use Rattle.tables.specs.Lookup.{last_of, lookup, entry_of, names_of}
 use Rattle.tables.specs.Chains.{own_name, is_recall_of}
 use Rattle.tables.proofs.NameLaws.{name_eq}
 use Rattle.tables.proofs.KindLaws.{live_recall}
-use Rattle.preservation.specs.Rules.{Rules, here, up}
+use Rattle.preservation.specs.Rules.{Rules}
 use Rattle.preservation.specs.InOrder.{InOrder}
 use Rattle.lists.specs.Members.{In, Once}
 use Rattle.report.specs.Rows.{is_listed, loans_of}

@@ -3,7 +3,7 @@ use Prim.Native.Nat.{ℕ, zero, suc, ◌+◌, ◌<◌}
 use native.Mathlib.Omega.{arith}
 use mathlib.Core.Path.{◌≡◌, refl, sym, ap, subst, ◌∙◌}
 use mathlib.Core.Bool.{true}
-use mathlib.Core.List.{List, map, flat_map}
+use mathlib.Core.List.{map, flat_map}
 use Rattle.tables.specs.declared.{Name.Name, Tables.Tables}
 use Rattle.preservation.specs.InOrder.{InOrder}
 use Rattle.lists.specs.Members.{In, first, later, Once, none, more}

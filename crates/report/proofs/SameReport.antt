@@ -6,7 +6,7 @@ use mathlib.Core.Bool.{Bool, true, ◌&&◌}
 use mathlib.Core.List.{List, [], ◌∷◌, ◌++◌, map, flat_map}
 use lib.Dec.{eqb}
 use Rattle.lists.specs.Lists.{total, keep}
-use Rattle.lists.specs.Parts.{tabulate, joined}
+use Rattle.lists.specs.Parts.{tabulate}
 use Rattle.lists.specs.Members.{In}
 use Rattle.lists.proofs.Tests.{Case, pass, fail, case, and_l}
 use Rattle.lists.proofs.PartLaws.{joined_same}

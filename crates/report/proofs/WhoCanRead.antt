@@ -23,7 +23,6 @@ use Rattle.machine.specs.Step.{own_refusal, request_refusal}
 use Rattle.machine.proofs.RefusalLaws.{when_past}
 use Rattle.preservation.proofs.DockCheck.{access_as_listed}
 use Rattle.preservation.specs.InOrder.{InOrder}
-use Rattle.lists.specs.Members.{In}
 use Rattle.report.specs.Rows.{is_listed}
 use Rattle.report.specs.Complete.{Shown, in_form, ReadIfShown, WrittenIfShown}
 use Rattle.report.proofs.Printed.{printed_listed}

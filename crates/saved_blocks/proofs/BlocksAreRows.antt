@@ -6,9 +6,8 @@ use mathlib.Core.Path.{◌≡◌, refl, sym, ap, subst, ◌∙◌}
 use mathlib.Core.Logic.{⊎_elim}
 use mathlib.Core.Bool.{Bool, true}
 use mathlib.Core.List.{List, [], ◌∷◌, map}
-use lib.Dec.{ltb, eqb}
+use lib.Dec.{ltb}
 use borrow.Author.Tests.{ltb-true, ltb-false, eqb-true, eq-eqb}
-use Rattle.lists.specs.Lists.{keep}
 use Rattle.lists.specs.Parts.{tabulate, joined}
 use Rattle.lists.specs.Members.{In, first}
 use Rattle.lists.proofs.Tests.{Case, pass, fail, case, no_true, and_r, and_intro}

@@ -6,10 +6,9 @@ use mathlib.Core.Logic.{◌⊎◌, inl, inr, ⊎_elim}
 use mathlib.Core.Bool.{true}
 use mathlib.Core.List.{List, [], ◌++◌, map, flat_map}
 use lib.ListN.{length, get_or, length-map}
-use Rattle.lists.specs.Tests.{between}
 use Rattle.lists.specs.Lists.{some, first_index, keep, count_of, sorted_by}
-use Rattle.lists.specs.Members.{In, first, Once}
-use Rattle.lists.proofs.Tests.{pass, between_low, between_high}
+use Rattle.lists.specs.Members.{In, Once}
+use Rattle.lists.proofs.Tests.{between_low, between_high}
 use Rattle.lists.proofs.Rising.{Rising, is_sorted, keep_rising, rising_once, one_key}
 use Rattle.lists.proofs.Filled.{filled_back}
 use Rattle.lists.proofs.MemberLaws.{in_left, in_right, in_either, Kept, kept, in_keep, all_in, found, all_map, map_back, map_same, flat_same, mapped, in_map, flat}

@@ -2,22 +2,20 @@
 use Prim.Native.Nat.{ℕ, zero, suc, ◌+◌, ◌*◌, ◌/◌, ◌%◌, ◌<◌}
 use native.Mathlib.Omega.{arith}
 use mathlib.Core.Path.{◌≡◌, refl, sym, ap, ◌∙◌}
-use mathlib.Core.Bool.{true, false}
+use mathlib.Core.Bool.{true}
 use mathlib.Core.List.{List, [], ◌∷◌, map}
 use lib.Dec.{eqb}
 use lib.ListN.{get_or}
 use borrow.Author.Tests.{eqb-true, eqb-false}
-use Rattle.lists.specs.Tests.{between}
-use Rattle.lists.specs.Lists.{keep, filled}
+use Rattle.lists.specs.Lists.{keep}
 use Rattle.lists.specs.Members.{In, first, later}
 use Rattle.lists.proofs.Tests.{Case, pass, fail, case, between_low, between_high}
 use Rattle.lists.proofs.MemberLaws.{kept}
 use Rattle.lists.proofs.Growing.{filled_at}
-use Rattle.tables.specs.declared.{Name.Name, Ticket.Ticket, Program.Program, Tables.Tables}
+use Rattle.tables.specs.declared.{Name.Name, Ticket.Ticket, Tables.Tables}
 use Rattle.tables.specs.Names.{name_of, free}
 use Rattle.tables.specs.Lookup.{last_of}
 use Rattle.tables.specs.Chains.{chain_head}
-use Rattle.image.specs.Image.{decode}
 use Rattle.image.proofs.KindNumbers.{grant_kind, recall_kind}
 use Rattle.image_places.specs.Places.{placed, Flattened}
 use Rattle.image_read.specs.Places.{tickets_in, lasts_in}

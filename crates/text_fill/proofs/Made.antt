@@ -5,7 +5,7 @@ use mathlib.Core.Path.{◌≡◌, refl, sym, ap, ◌∙◌}
 use mathlib.Core.Bool.{Bool, true, false, cond, not}
 use mathlib.Core.List.{List, [], ◌∷◌, ◌++◌, map, map-append}
 use lib.Dec.{ltb}
-use lib.ListN.{length, get_or, set, replicate, length-map, length-set, length-replicate}
+use lib.ListN.{length, get_or, set, length-map, length-set, length-replicate}
 use lib.Seq.{ext_get_or, get_or-set_same, get_or-set_other}
 use borrow.Author.Tests.{ltb-true}
 use Rattle.lists.specs.Lists.{first_index, some, keep, filled}
@@ -14,9 +14,8 @@ use Rattle.lists.proofs.Reading.{same_all}
 use Rattle.lists.proofs.Counts.{keep_long}
 use Rattle.lists.proofs.Filled.{filled_long}
 use Rattle.lists.proofs.Growing.{turned, turned_more, one_kept, none_kept, count_turned, found_as_before, found_new, filled_at, next_filled}
-use Rattle.tables.specs.declared.{Ticket.Ticket, Entry.Entry, Tables.Tables}
+use Rattle.tables.specs.declared.{Ticket.Ticket, Entry.Entry}
 use Rattle.tables.specs.Names.{free, no_entry}
-use Rattle.tables.specs.Lookup.{tickets_of}
 use Rattle.image_places.specs.Places.{Flattened}
 use Rattle.image_write.specs.Shows.{Holds}
 use Rattle.image_write.proofs.ToTables.{holds}

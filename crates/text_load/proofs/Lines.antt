@@ -18,7 +18,7 @@ use Rattle.tables.specs.declared.{Program.Program, Pad.Pad, Tables.Tables}
 use Rattle.tables.specs.Names.{free, no_program, no_pad, empty_tables}
 use Rattle.tables.specs.Lookup.{last_of}
 use Rattle.image.specs.Layout.{image_size}
-use Rattle.image.specs.Image.{decode, encode}
+use Rattle.image.specs.Image.{decode}
 use Rattle.image.proofs.RoundTrip.{encode_is_image}
 use Rattle.image.proofs.EmptyImage.{empty_zeros, zeros_empty}
 use Rattle.image_read.specs.Places.{tickets_in, lasts_in}

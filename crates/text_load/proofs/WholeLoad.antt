@@ -1,12 +1,11 @@
 -- The whole load: what each answer leaves.
 use Prim.Native.Nat.{ℕ, ◌<◌}
 use mathlib.Core.Path.{◌≡◌, refl, sym, ap, ◌∙◌}
-use mathlib.Core.Bool.{true, false, not, ◌&&◌, cond}
+use mathlib.Core.Bool.{true, false, ◌&&◌, cond}
 use mathlib.Core.List.{List}
 use lib.Dec.{eqb}
 use lib.ListN.{length, get_or, replicate}
 use borrow.Author.Tests.{eq-eqb, ne_eqb}
-use Rattle.tables.specs.declared.Tables.{Tables}
 use Rattle.tables.specs.Names.{empty_tables}
 use Rattle.tables.specs.Order.{in_order}
 use Rattle.machine.specs.Refusal.{◌when◌else◌}

@@ -17,7 +17,7 @@ use Rattle.text.specs.Appending.{Appends, Countable}
 use Rattle.text.proofs.WritingLaws.{places_most}
 use Rattle.text.proofs.WritingSteps.{length_line, line_none}
 use Rattle.text.proofs.Appending.{append_as, append_both}
-use Rattle.text_marks.specs.Marks.{mark_bytes, marked_in, unmarked}
+use Rattle.text_marks.specs.Marks.{mark_bytes, marked_in}
 use Rattle.text_marks.proofs.Laws.{none_marked, unmarked_most}
 use Rattle.report.specs.Rows.{is_listed, taken_grants, rows}
 use Rattle.report.specs.Report.{report_names, row_line, taken_in, report_room, report}

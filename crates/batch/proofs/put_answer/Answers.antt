@@ -1,4 +1,3 @@
-use borrow.Author.Rules.{rules}
 use Rattle.machine.specs.Numbers.{answer_numbers}
 use Rattle.batch.proofs.Numbers.{all_stored}
 use Rattle.batch.proofs.put_answer.Goals as goal

@@ -1,7 +1,6 @@
 -- Each return is the batch's answer to the tests that led to it; the last one has served all requests.
 use mathlib.Core.Path.{◌≡◌}
 use mathlib.Core.Bool.{true}
-use borrow.Author.Rules.{rules}
 use Rattle.lists.proofs.Tests.{passed, failed}
 use Rattle.lending.specs.Batch.{buffers_fit, buffers_of}
 use Rattle.batch.proofs.Refusals.{whole, image_whole, leaves_13, leaves_14, leaves_0, tables_bad, tables_ok_lem, is_image_lem, is_in_order}

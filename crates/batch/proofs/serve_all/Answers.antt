@@ -3,14 +3,11 @@ use Prim.Native.Nat.{◌+◌, ◌-◌, ◌*◌}
 use native.Mathlib.Omega.{arith}
 use mathlib.Core.Path.{sym, ap, ◌∙◌}
 use lib.ListN.{length-take, length-drop}
-use borrow.Author.Rules.{rules}
 use Rattle.lists.proofs.Front.{rest_part}
 use Rattle.machine.specs.Numbers.{request_width, request_of, answer_width}
-use Rattle.image.specs.Image.{decode}
 use Rattle.image.proofs.RoundTrip.{image_whole}
-use Rattle.lending.specs.Sequence.{start_with}
 use Rattle.lending.specs.Numbers.{count_of}
-use Rattle.batch.proofs.Steps.{Going, begins, still_image, next, ends}
+use Rattle.batch.proofs.Steps.{begins, still_image, next, ends}
 use Rattle.batch.proofs.serve_all.Goals as goal
 
 pub loop-i-init : goal.loop-i-init

@@ -1,13 +1,11 @@
 -- `count` links lead from the ticket to the one whose parent is `up`.
 use Prim.Native.Nat.{◌-◌}
-use native.Mathlib.Omega.{arith}
-use mathlib.Core.Path.{◌≡◌, sym, ap, ◌∙◌}
-use borrow.Author.Rules.{rules}
-use Rattle.tables.specs.declared.{Name.Name, Ticket.Ticket}
+use mathlib.Core.Path.{◌≡◌}
+use Rattle.tables.specs.declared.{Name.Name}
 use Rattle.tables.specs.Lookup.{lookup}
-use Rattle.tables.specs.Chains.{parent_by, parent_of}
+use Rattle.tables.specs.Chains.{parent_of}
 use Rattle.image.specs.Image.{decode}
-use Rattle.image_chains.proofs.Walk.{Counted, none_counted, at_the_head, places_spent, one_more}
+use Rattle.image_chains.proofs.Walk.{Counted}
 use Rattle.image_chains.proofs.links.Given as goal
 
 abbrev pub invariant-loop-count : goal.invariant-loop-count

@@ -1,5 +1,4 @@
 use mathlib.Core.Path.{◌∙◌}
-use borrow.Author.Rules.{rules}
 use Rattle.image_find.proofs.Steps.{entry_there, entry_nowhere}
 use Rattle.image_find.proofs.entry.Goals as goal
 

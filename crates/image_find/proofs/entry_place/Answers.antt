@@ -1,10 +1,6 @@
 -- The search stands at the place i: what is named n is found from there on.
-use Prim.Native.Nat.{◌+◌, ◌-◌, ◌≤◌}
 use native.Mathlib.Omega.{arith}
-use mathlib.Core.Path.{◌≡◌, sym, ap, ◌∙◌}
-use lib.ListN.{drop}
-use borrow.Author.Rules.{rules}
-use Rattle.lists.specs.Lists.{first_index}
+use mathlib.Core.Path.{sym, ap, ◌∙◌}
 use Rattle.lists.proofs.Loops.{first_miss, first_hit, first_end}
 use Rattle.tables.specs.Names.{no_entry}
 use Rattle.tables.specs.Lookup.{is_named}

@@ -1,15 +1,10 @@
 -- The search stands at the place i: what is named n is found from there on.
 use Prim.Native.Nat.{◌+◌, ◌-◌, ◌≤◌}
-use native.Mathlib.Omega.{arith}
-use mathlib.Core.Path.{◌≡◌, sym, ap, ◌∙◌}
+use mathlib.Core.Path.{◌≡◌}
 use lib.ListN.{drop}
-use borrow.Author.Rules.{rules}
 use Rattle.lists.specs.Lists.{first_index}
-use Rattle.lists.proofs.Loops.{first_miss, first_hit, first_end}
-use Rattle.tables.specs.Names.{no_entry}
 use Rattle.tables.specs.Lookup.{is_named}
 use Rattle.image_read.specs.Places.{entries_in}
-use Rattle.image_read.proofs.Places.{entries_long}
 use Rattle.image_find.proofs.entry_place.Given as goal
 
 abbrev pub invariant-loop-i : goal.invariant-loop-i

@@ -1,10 +1,8 @@
 -- The search stands at a place of the program: what is free is found from there on.
-use Prim.Native.Nat.{◌-◌, ◌≤◌}
 use native.Mathlib.Omega.{arith}
 use mathlib.Core.Path.{sym, ap, ◌∙◌}
 use mathlib.Core.Bool.{not}
-use borrow.Author.Rules.{rules}
-use Rattle.image_find.proofs.Steps.{FreeSearch, free_hit, free_miss, free_none}
+use Rattle.image_find.proofs.Steps.{free_hit, free_miss, free_none}
 use Rattle.image_find.proofs.free_place.Goals as goal
 
 pub loop-place-init : goal.loop-place-init

@@ -1,10 +1,6 @@
 -- The search stands at a place of the program: what is free is found from there on.
 use Prim.Native.Nat.{◌-◌, ◌≤◌}
-use native.Mathlib.Omega.{arith}
-use mathlib.Core.Path.{sym, ap, ◌∙◌}
-use mathlib.Core.Bool.{not}
-use borrow.Author.Rules.{rules}
-use Rattle.image_find.proofs.Steps.{FreeSearch, free_hit, free_miss, free_none}
+use Rattle.image_find.proofs.Steps.{FreeSearch}
 use Rattle.image_find.proofs.free_place.Given as goal
 
 abbrev pub invariant-loop-place : goal.invariant-loop-place

@@ -1,7 +1,6 @@
 use Prim.Native.Nat.{◌+◌, ◌*◌}
 use mathlib.Core.Path.{sym, ◌∙◌}
 use lib.ListN.{drop}
-use borrow.Author.Rules.{rules}
 use Rattle.image.specs.Layout.{program_size}
 use Rattle.image.specs.Image.{read_program}
 use Rattle.image_find.proofs.Laws.{program_there}

@@ -1,8 +1,6 @@
 -- The search stands at place i: a free place is found from there on.
-use Prim.Native.Nat.{◌-◌, ◌≤◌}
 use native.Mathlib.Omega.{arith}
-use borrow.Author.Rules.{rules}
-use Rattle.image_find.proofs.Steps.{SpareSearch, spare_hit, spare_miss, spare_none}
+use Rattle.image_find.proofs.Steps.{spare_hit, spare_miss, spare_none}
 use Rattle.image_find.proofs.spare_place.Goals as goal
 
 pub loop-i-init : goal.loop-i-init

@@ -1,8 +1,6 @@
 -- The search stands at place i: a free place is found from there on.
 use Prim.Native.Nat.{◌-◌, ◌≤◌}
-use native.Mathlib.Omega.{arith}
-use borrow.Author.Rules.{rules}
-use Rattle.image_find.proofs.Steps.{SpareSearch, spare_hit, spare_miss, spare_none}
+use Rattle.image_find.proofs.Steps.{SpareSearch}
 use Rattle.image_find.proofs.spare_place.Given as goal
 
 abbrev pub invariant-loop-i : goal.invariant-loop-i

@@ -1,9 +1,6 @@
 -- The search stands at place i of the program: the number is found from there on.
 use Prim.Native.Nat.{◌-◌, ◌≤◌}
-use native.Mathlib.Omega.{arith}
-use mathlib.Core.Path.{sym, ◌∙◌}
-use borrow.Author.Rules.{rules}
-use Rattle.image_find.proofs.Steps.{no_pad_lem, no_program_lem, Search, ticket_hit, ticket_miss, ticket_none}
+use Rattle.image_find.proofs.Steps.{Search}
 use Rattle.image_find.proofs.ticket.Given as goal
 
 abbrev pub invariant-loop-i : goal.invariant-loop-i

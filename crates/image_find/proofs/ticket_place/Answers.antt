@@ -1,9 +1,7 @@
 -- The search stands at place i of the program: the number is found from there on.
-use Prim.Native.Nat.{◌-◌, ◌≤◌}
 use native.Mathlib.Omega.{arith}
 use mathlib.Core.Path.{sym, ◌∙◌}
-use borrow.Author.Rules.{rules}
-use Rattle.image_find.proofs.Steps.{no_pad_lem, no_program_lem, no_place, Search, place_hit, ticket_miss, ticket_none}
+use Rattle.image_find.proofs.Steps.{no_pad_lem, no_program_lem, no_place, place_hit, ticket_miss, ticket_none}
 use Rattle.image_find.proofs.ticket_place.Goals as goal
 
 pub returns-then-n-gt3 : goal.returns-then-n-gt3

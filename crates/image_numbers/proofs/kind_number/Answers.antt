@@ -1,5 +1,4 @@
 use mathlib.Core.Path.{sym, ap, ◌∙◌}
-use borrow.Author.Rules.{rules}
 use Rattle.tables.specs.declared.Ticket.{Ticket}
 use Rattle.image_numbers.proofs.KindNumbers.{other_kind, this_kind}
 use Rattle.image_numbers.proofs.kind_number.Goals as goal

@@ -1,9 +1,6 @@
 -- The places below i have been looked at.
-use Prim.Native.Nat.{◌-◌}
 use native.Mathlib.Omega.{arith}
-use borrow.Author.Rules.{rules}
-use lib.ListN.{length}
-use Rattle.image_numbers.proofs.Least.{Best, best_none, best_past, best_kept, best_new, best_end}
+use Rattle.image_numbers.proofs.Least.{best_none, best_past, best_kept, best_new, best_end}
 use Rattle.image_numbers.proofs.next_above.Goals as goal
 
 pub loop-i-init : goal.loop-i-init

@@ -1,9 +1,7 @@
 -- The places below i have been looked at.
 use Prim.Native.Nat.{◌-◌}
-use native.Mathlib.Omega.{arith}
-use borrow.Author.Rules.{rules}
 use lib.ListN.{length}
-use Rattle.image_numbers.proofs.Least.{Best, best_none, best_past, best_kept, best_new, best_end}
+use Rattle.image_numbers.proofs.Least.{Best}
 use Rattle.image_numbers.proofs.next_above.Given as goal
 
 abbrev pub invariant-loop-i : goal.invariant-loop-i

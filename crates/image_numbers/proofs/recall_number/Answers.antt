@@ -1,6 +1,5 @@
 use mathlib.Core.Path.{sym, ◌∙◌}
-use borrow.Author.Rules.{rules}
-use borrow.Author.Tests.{eq-eqb, ne_eqb, not-true, not-false}
+use borrow.Author.Tests.{eq-eqb, ne_eqb}
 use Rattle.tables.specs.Chains.{is_recall_of}
 use Rattle.image_numbers.specs.Numbers.{number_if}
 use Rattle.image_numbers.proofs.recall_number.Goals as goal

@@ -1,5 +1,4 @@
 use mathlib.Core.Path.{sym, ◌∙◌}
-use borrow.Author.Rules.{rules}
 use Rattle.image_numbers.specs.Numbers.{number_if}
 use Rattle.image_numbers.proofs.taken_number.Goals as goal
 

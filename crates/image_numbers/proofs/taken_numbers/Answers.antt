@@ -1,15 +1,9 @@
 -- After i turns the first i places hold their numbers.
-use Prim.Native.Nat.{ℕ, ◌+◌, ◌-◌, ◌*◌, ◌≤◌}
 use native.Mathlib.Omega.{arith}
 use mathlib.Core.Path.{ap, ◌∙◌}
-use mathlib.Core.List.{List}
-use lib.ListN.{get_or}
-use borrow.Author.Rules.{rules}
-use Rattle.lists.proofs.Laid.{Laid, laid_none, one_more}
+use Rattle.lists.proofs.Laid.{laid_none, one_more}
 use Rattle.lists.proofs.PartLaws.{tabulated}
 use Rattle.tables.specs.Kinds.{is_taken}
-use Rattle.tables.specs.Names.{free}
-use Rattle.image_read.specs.Places.{tickets_in}
 use Rattle.image_numbers.specs.Numbers.{number_if, numbers_in}
 use Rattle.image_numbers.proofs.taken_numbers.Invariants.{wanted}
 use Rattle.image_numbers.proofs.taken_numbers.Goals as goal

@@ -2,7 +2,6 @@
 use Prim.Native.Nat.{◌+◌, ◌-◌, ◌*◌}
 use native.Mathlib.Omega.{arith}
 use mathlib.Core.Path.{◌∙◌}
-use borrow.Author.Rules.{rules}
 use Rattle.image_pads.proofs.Places.{row_index, place_none, place_out, place_missing, place_here}
 use Rattle.image_pads.proofs.place_in.Goals as goal
 

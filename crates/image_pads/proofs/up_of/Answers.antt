@@ -1,6 +1,5 @@
 -- By the kind.
 use mathlib.Core.Path.{◌∙◌}
-use borrow.Author.Rules.{rules}
 use Rattle.tables.specs.declared.Kind.TheVariants.{Free, Taken, Received, Child, Recall}
 use Rattle.image_pads.proofs.Places.{up_kind}
 use Rattle.image_pads.proofs.up_of.Goals as goal

@@ -1,9 +1,8 @@
 -- The first i numbers have been stored.
-use Prim.Native.Nat.{◌+◌, ◌-◌, ◌*◌, ◌≤◌}
+use Prim.Native.Nat.{◌+◌, ◌*◌}
 use native.Mathlib.Omega.{arith}
 use mathlib.Core.Path.{ap, ◌∙◌}
-use borrow.Author.Rules.{rules}
-use Rattle.lists.proofs.Laid.{Laid, one_more}
+use Rattle.lists.proofs.Laid.{one_more}
 use Rattle.lists.proofs.PartLaws.{tabulated}
 use Rattle.image.specs.Image.{decode}
 use Rattle.image_find.proofs.Laws.{flattened}

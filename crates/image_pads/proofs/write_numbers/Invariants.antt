@@ -1,14 +1,9 @@
 -- The first i numbers have been stored.
-use Prim.Native.Nat.{◌+◌, ◌-◌, ◌*◌, ◌≤◌}
-use native.Mathlib.Omega.{arith}
-use mathlib.Core.Path.{ap, ◌∙◌}
-use borrow.Author.Rules.{rules}
-use Rattle.lists.proofs.Laid.{Laid, one_more}
-use Rattle.lists.proofs.PartLaws.{tabulated}
+use Prim.Native.Nat.{◌-◌, ◌≤◌}
+use Rattle.lists.proofs.Laid.{Laid}
 use Rattle.image.specs.Image.{decode}
-use Rattle.image_find.proofs.Laws.{flattened}
 use Rattle.image_places.specs.Places.{number_of}
-use Rattle.image_pads.specs.Places.{on_pad, numbers_of}
+use Rattle.image_pads.specs.Places.{on_pad}
 use Rattle.image_pads.proofs.write_numbers.Given as goal
 
 abbrev pub invariant-loop-i : goal.invariant-loop-i

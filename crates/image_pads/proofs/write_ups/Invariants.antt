@@ -1,14 +1,8 @@
 -- The first i places have been stored.
-use Prim.Native.Nat.{ℕ, ◌+◌, ◌-◌, ◌*◌, ◌/◌, ◌≤◌}
-use native.Mathlib.Omega.{arith}
-use mathlib.Core.Path.{sym, ap, subst, ◌∙◌}
-use borrow.Author.Rules.{rules}
-use Rattle.lists.proofs.Laid.{Laid, one_more}
-use Rattle.lists.proofs.PartLaws.{tabulated}
+use Prim.Native.Nat.{◌-◌, ◌/◌, ◌≤◌}
+use Rattle.lists.proofs.Laid.{Laid}
 use Rattle.image.specs.Image.{decode}
-use Rattle.image_find.proofs.Laws.{flattened}
-use Rattle.image_pads.specs.Places.{on_pad, up_of, ups_of}
-use Rattle.image_pads.proofs.Places.{up_fits}
+use Rattle.image_pads.specs.Places.{on_pad, up_of}
 use Rattle.image_pads.proofs.write_ups.Given as goal
 
 abbrev pub invariant-loop-i : goal.invariant-loop-i

@@ -1,9 +1,6 @@
-use Prim.Native.Nat.{ℕ, ◌<◌}
 use native.Mathlib.Omega.{arith}
 use mathlib.Core.Path.{◌∙◌}
-use borrow.Author.Rules.{rules}
 use Rattle.image_places.proofs.WalkSteps.{end_out, end_here, end_up}
-use Rattle.image_places.proofs.+end_from.Lts-end_from as end-from-lts
 use Rattle.image_places.proofs.+end_from.Goals as goal
 
 pub returns-then-left-eq0 : goal.returns-then-left-eq0

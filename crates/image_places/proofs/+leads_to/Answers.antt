@@ -1,9 +1,6 @@
-use Prim.Native.Nat.{ℕ, ◌<◌}
 use native.Mathlib.Omega.{arith}
 use mathlib.Core.Path.{◌∙◌}
-use borrow.Author.Rules.{rules}
 use Rattle.image_places.proofs.WalkSteps.{leads_out, leads_here, leads_end, leads_up}
-use Rattle.image_places.proofs.+leads_to.Lts-leads_to as leads-to-lts
 use Rattle.image_places.proofs.+leads_to.Goals as goal
 
 pub returns-then-left-eq0 : goal.returns-then-left-eq0

@@ -1,10 +1,7 @@
-use Prim.Native.Nat.{◌≤◌}
 use native.Mathlib.Omega.{arith}
-use borrow.Author.Rules.{rules}
 use borrow.Author.Tests.{eq-eqb, ne_eqb}
 use lib.Dec.{eqb}
-use lib.ListN.{length}
-use Rattle.image_places.proofs.Search.{Lowest, lowest_none, lowest_hit, lowest_miss, lowest_end}
+use Rattle.image_places.proofs.Search.{lowest_none, lowest_hit, lowest_miss, lowest_end}
 use Rattle.image_places.proofs.index_of.Goals as goal
 
 pub loop-i-init : goal.loop-i-init

@@ -1,5 +1,4 @@
 use mathlib.Core.Path.{sym, ◌∙◌}
-use borrow.Author.Rules.{rules}
 use Rattle.image_places.specs.Places.{number_of}
 use Rattle.image_places.proofs.number_of.Goals as goal
 

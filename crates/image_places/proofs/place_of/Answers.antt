@@ -1,5 +1,4 @@
 use native.Mathlib.Omega.{arith}
-use borrow.Author.Rules.{rules}
 use Rattle.image_places.proofs.PlaceSteps.{no_pad_lem, no_program_lem, no_number, not_there, is_there, of_eight}
 use Rattle.image_places.proofs.place_of.Goals as goal
 

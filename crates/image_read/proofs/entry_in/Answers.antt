@@ -1,7 +1,6 @@
 -- Field by field.
 use mathlib.Core.Path.{ap, ◌∙◌}
 use lib.Dec.{eqb}
-use borrow.Author.Rules.{rules}
 use Rattle.rights.specs.Rules.{rights_of}
 use Rattle.image.specs.Image.{read_entry}
 use Rattle.image_read.proofs.entry_in.Goals as goal

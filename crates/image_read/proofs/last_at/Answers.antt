@@ -1,5 +1,4 @@
 use mathlib.Core.Path.{sym, ◌∙◌}
-use borrow.Author.Rules.{rules}
 use Rattle.image_read.proofs.Places.{last_here}
 use Rattle.image_read.proofs.last_at.Goals as goal
 

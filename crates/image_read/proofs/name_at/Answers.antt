@@ -1,5 +1,4 @@
 -- Field by field.
-use borrow.Author.Rules.{rules}
 use Rattle.image_read.proofs.name_at.Goals as goal
 
 pub returns : goal.returns

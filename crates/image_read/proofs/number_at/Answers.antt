@@ -1,6 +1,5 @@
 -- The low byte, and 256 times the high one.
 use native.Mathlib.Omega.{arith}
-use borrow.Author.Rules.{rules}
 use Rattle.image_read.proofs.number_at.Goals as goal
 
 pub returns : goal.returns

@@ -1,6 +1,5 @@
 use Prim.Native.Nat.{◌*◌}
 use mathlib.Core.Path.{ap, ◌∙◌}
-use borrow.Author.Rules.{rules}
 use Rattle.lists.proofs.Front.{rest_part}
 use Rattle.image.specs.Layout.{program_size}
 use Rattle.image.specs.Image.{read_program}

@@ -1,11 +1,10 @@
 -- After i turns the first i places hold the tickets that the bytes say.
-use Prim.Native.Nat.{◌-◌, ◌*◌, ◌≤◌}
+use Prim.Native.Nat.{◌*◌}
 use native.Mathlib.Omega.{arith}
 use mathlib.Core.Path.{ap, ◌∙◌}
 use lib.ListN.{drop}
-use borrow.Author.Rules.{rules}
 use Rattle.lists.proofs.Front.{rest_part}
-use Rattle.lists.proofs.Laid.{Laid, laid_none, one_more}
+use Rattle.lists.proofs.Laid.{laid_none, one_more}
 use Rattle.lists.proofs.PartLaws.{tabulated}
 use Rattle.tables.specs.Names.{free}
 use Rattle.image.specs.Layout.{ticket_size}

@@ -1,15 +1,10 @@
 -- After i turns the first i places hold the tickets that the bytes say.
 use Prim.Native.Nat.{◌-◌, ◌*◌, ◌≤◌}
-use native.Mathlib.Omega.{arith}
-use mathlib.Core.Path.{ap, ◌∙◌}
 use lib.ListN.{drop}
-use borrow.Author.Rules.{rules}
-use Rattle.lists.proofs.Front.{rest_part}
-use Rattle.lists.proofs.Laid.{Laid, laid_none, one_more}
-use Rattle.lists.proofs.PartLaws.{tabulated}
+use Rattle.lists.proofs.Laid.{Laid}
 use Rattle.tables.specs.Names.{free}
 use Rattle.image.specs.Layout.{ticket_size}
-use Rattle.image.specs.Image.{read_ticket, read_program}
+use Rattle.image.specs.Image.{read_ticket}
 use Rattle.image_read.proofs.program_in.Given as goal
 
 abbrev pub invariant-loop-i : goal.invariant-loop-i

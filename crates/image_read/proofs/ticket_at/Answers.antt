@@ -1,5 +1,4 @@
 use mathlib.Core.Path.{sym, ap, ◌∙◌}
-use borrow.Author.Rules.{rules}
 use Rattle.lists.proofs.Front.{rest_part}
 use Rattle.image.specs.Image.{read_ticket, ticket_start}
 use Rattle.image_read.proofs.Places.{ticket_here}

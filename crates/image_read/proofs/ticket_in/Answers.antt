@@ -1,6 +1,5 @@
 -- Field by field.
 use mathlib.Core.Path.{ap, ◌∙◌}
-use borrow.Author.Rules.{rules}
 use Rattle.rights.specs.Rules.{rights_of}
 use Rattle.image.specs.Image.{kind_of, read_ticket}
 use Rattle.image_read.proofs.ticket_in.Goals as goal

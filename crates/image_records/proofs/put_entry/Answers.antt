@@ -1,7 +1,6 @@
 -- The numbers are those of the definition.
 use mathlib.Core.Path.{◌∙◌}
 use mathlib.Core.List.{[], ◌∷◌}
-use borrow.Author.Rules.{rules}
 use Rattle.image.specs.Numbers.{bytes_of}
 use Rattle.image.specs.Image.{entry_numbers, entry_bytes}
 use Rattle.image_records.proofs.put_entry.Goals as goal

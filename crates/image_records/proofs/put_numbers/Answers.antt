@@ -1,10 +1,9 @@
 -- After i turns the bytes of the first i numbers are written, the rest is as it was.
-use Prim.Native.Nat.{◌-◌, ◌*◌, ◌≤◌}
+use Prim.Native.Nat.{◌*◌}
 use native.Mathlib.Omega.{arith}
-use mathlib.Core.Path.{◌≡◌, refl, ◌∙◌}
-use lib.ListN.{length-set, length}
-use borrow.Author.Rules.{rules}
-use Rattle.lists.proofs.Front.{front, front_none, front_end}
+use mathlib.Core.Path.{refl, ◌∙◌}
+use lib.ListN.{length-set}
+use Rattle.lists.proofs.Front.{front_none, front_end}
 use Rattle.image.specs.Numbers.{bytes_of}
 use Rattle.image.proofs.NumberLaws.{length_bytes, put_number}
 use Rattle.image_records.proofs.put_numbers.Goals as goal

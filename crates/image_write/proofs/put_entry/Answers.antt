@@ -1,7 +1,6 @@
 -- The entry's 20 bytes come back as the entry's.
 use Prim.Native.Nat.{◌+◌, ◌-◌}
 use native.Mathlib.Omega.{arith}
-use borrow.Author.Rules.{rules}
 use Rattle.image.specs.Layout.{entry_size}
 use Rattle.image.specs.Image.{entry_start}
 use Rattle.image.proofs.RoundTrip.{image_whole}

@@ -1,7 +1,6 @@
 -- The two bytes come back as the number's.
 use Prim.Native.Nat.{◌+◌, ◌-◌}
 use native.Mathlib.Omega.{arith}
-use borrow.Author.Rules.{rules}
 use Rattle.image.proofs.RoundTrip.{image_whole}
 use Rattle.image_read.specs.Places.{last_start}
 use Rattle.image_write.proofs.Put.{shows_last}

@@ -1,7 +1,6 @@
 -- The ticket's 24 bytes come back as the ticket's.
 use Prim.Native.Nat.{◌+◌, ◌-◌}
 use native.Mathlib.Omega.{arith}
-use borrow.Author.Rules.{rules}
 use Rattle.image.specs.Layout.{ticket_size}
 use Rattle.image.specs.Image.{ticket_start}
 use Rattle.image.proofs.RoundTrip.{image_whole}

@@ -1,5 +1,4 @@
 use mathlib.Core.Path.{sym}
-use borrow.Author.Rules.{rules}
 use Rattle.image.specs.Image.{decode}
 use Rattle.op_refusals.proofs.Parts.{pad_refuses, dock_decides}
 use Rattle.op_access.proofs.allowed.Goals as goal

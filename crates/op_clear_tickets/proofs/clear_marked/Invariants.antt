@@ -1,13 +1,6 @@
 -- The first i places of the pad have been cleared of what is marked.
-use Prim.Native.Nat.{ℕ, ◌+◌, ◌-◌, ◌*◌, ◌≤◌, ◌<◌}
-use native.Mathlib.Omega.{arith}
-use mathlib.Core.Path.{◌≡◌, refl, sym, ap, subst, ◌∙◌}
-use mathlib.Core.Bool.{Bool, true, false}
-use borrow.Author.Rules.{rules}
-use Rattle.tables.specs.declared.Ticket.{Ticket}
-use Rattle.image.proofs.RoundTrip.{image_whole}
+use Prim.Native.Nat.{◌-◌, ◌*◌, ◌≤◌}
 use Rattle.op_clear_tickets.specs.Cleared.{is_marked, Cleared}
-use Rattle.op_clear_tickets.proofs.Laws.{stood, cleared_none, stands_yet, cleared_gone, cleared_kept}
 use Rattle.op_clear_tickets.proofs.clear_marked.Given as goal
 
 abbrev pub invariant-loop-i : goal.invariant-loop-i

@@ -1,6 +1,5 @@
 -- By the tests in their order.
 use mathlib.Core.Path.{ap, ◌∙◌}
-use borrow.Author.Rules.{rules}
 use lib.ListN.{get_or}
 use Rattle.tables.specs.declared.Ticket.{Ticket}
 use Rattle.tables.specs.Kinds.{is_live}

@@ -1,17 +1,11 @@
 -- The outer loop is at a turn of the queue (`Going`), the inner one at a place of the entries (`Turning`): from what held where a loop began
 -- follows what holds now, whatever the image was before.
-use Prim.Native.Nat.{ℕ, ◌-◌, ◌≤◌, ◌<◌}
+use Prim.Native.Nat.{◌<◌}
 use native.Mathlib.Omega.{arith}
-use mathlib.Core.Path.{◌≡◌, refl, sym, ◌∙◌}
-use mathlib.Core.Bool.{true}
-use mathlib.Core.List.{List}
-use lib.ListN.{get_or}
-use borrow.Author.Rules.{rules}
-use Rattle.tables.specs.Names.{no_name}
-use Rattle.image.specs.Image.{is_image}
+use mathlib.Core.Path.{refl, sym, ◌∙◌}
 use Rattle.image.proofs.RoundTrip.{image_whole}
-use Rattle.op_drop_entries.proofs.InImage.{Going, going_more, nothing_gone, going_begins, going_ends}
-use Rattle.op_drop_entries.proofs.InImage.{Turning, turning_none, turning_kept, turning_room, turning_gone}
+use Rattle.op_drop_entries.proofs.InImage.{going_more, nothing_gone, going_begins, going_ends}
+use Rattle.op_drop_entries.proofs.InImage.{turning_none, turning_kept, turning_room, turning_gone}
 use Rattle.op_drop_entries.proofs.drop_below.Goals as goal
 
 pub entry_place-at-requires : goal.entry_place-at-requires

@@ -1,6 +1,5 @@
 -- The parent's number, whether the parent is the store, whether it is live, then the parent's name.
 use mathlib.Core.Path.{◌∙◌}
-use borrow.Author.Rules.{rules}
 use borrow.Author.Tests.{not-true, not-false}
 use Rattle.op_drop_entries.proofs.DirectlyBelow.{not_below, below_store, below_dead, below_when}
 use Rattle.op_drop_entries.proofs.is_below.Goals as goal

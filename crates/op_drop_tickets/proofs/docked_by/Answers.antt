@@ -1,6 +1,5 @@
 -- By the tests in their order.
 use mathlib.Core.Path.{◌∙◌}
-use borrow.Author.Rules.{rules}
 use Rattle.lists.proofs.Tests.{passed, failed}
 use Rattle.op_drop_tickets.proofs.Steps.{no_grant, grant_docked}
 use mathlib.Core.Bool.{not}

@@ -1,6 +1,5 @@
 -- By the tests in their order.
 use mathlib.Core.Path.{sym, ap, ◌∙◌}
-use borrow.Author.Rules.{rules}
 use Rattle.lists.proofs.Tests.{passed, failed}
 use Rattle.tables.specs.Names.{name_of}
 use Rattle.image.specs.Image.{decode}

@@ -1,10 +1,9 @@
 -- The first i places of the program have been cleared of the name's ticket.
-use Prim.Native.Nat.{ℕ, ◌+◌, ◌-◌, ◌*◌, ◌≤◌, ◌<◌}
+use Prim.Native.Nat.{ℕ, ◌+◌, ◌*◌, ◌<◌}
 use native.Mathlib.Omega.{arith}
 use mathlib.Core.Path.{◌≡◌, sym, ap, subst, ◌∙◌}
 use mathlib.Core.Bool.{Bool}
 use lib.ListN.{get_or}
-use borrow.Author.Rules.{rules}
 use Rattle.tables.specs.declared.Ticket.{Ticket}
 use Rattle.tables.specs.Names.{eq_name, free}
 use Rattle.tables.specs.Lookup.{has_number}

@@ -1,6 +1,5 @@
 -- By the tests in their order.
 use mathlib.Core.Path.{◌∙◌}
-use borrow.Author.Rules.{rules}
 use Rattle.op_drop_tickets.proofs.Steps.{goes_also, goes_under}
 use Rattle.op_drop_tickets.proofs.has_to_go.Goals as goal
 

@@ -1,9 +1,7 @@
 -- The first i places have been marked or left.
-use Prim.Native.Nat.{◌-◌, ◌≤◌}
 use native.Mathlib.Omega.{arith}
 use mathlib.Core.Path.{ap, ◌∙◌}
-use borrow.Author.Rules.{rules}
-use Rattle.lists.proofs.Laid.{Laid, one_more}
+use Rattle.lists.proofs.Laid.{one_more}
 use Rattle.lists.proofs.PartLaws.{tabulated}
 use Rattle.op_drop_tickets.specs.Marks.{goes, mark_of, marks_of}
 use Rattle.op_drop_tickets.proofs.mark_chains.Goals as goal

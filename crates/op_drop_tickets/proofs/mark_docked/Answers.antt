@@ -1,10 +1,9 @@
 -- The first i places have been marked or left.
-use Prim.Native.Nat.{ℕ, ◌+◌, ◌-◌, ◌*◌, ◌/◌, ◌≤◌}
+use Prim.Native.Nat.{ℕ, ◌+◌, ◌*◌, ◌/◌}
 use native.Mathlib.Omega.{arith}
 use mathlib.Core.Path.{◌≡◌, ap, ◌∙◌}
 use lib.ListN.{get_or}
-use borrow.Author.Rules.{rules}
-use Rattle.lists.proofs.Laid.{Laid, one_more}
+use Rattle.lists.proofs.Laid.{one_more}
 use Rattle.lists.proofs.PartLaws.{tabulated}
 use Rattle.tables.specs.Names.{name_of, free}
 use Rattle.image.specs.Image.{decode}

@@ -1,17 +1,9 @@
 -- The first i places have been marked or left.
-use Prim.Native.Nat.{ℕ, ◌+◌, ◌-◌, ◌*◌, ◌/◌, ◌≤◌}
-use native.Mathlib.Omega.{arith}
-use mathlib.Core.Path.{◌≡◌, ap, ◌∙◌}
-use lib.ListN.{get_or}
-use borrow.Author.Rules.{rules}
-use Rattle.lists.proofs.Laid.{Laid, one_more}
-use Rattle.lists.proofs.PartLaws.{tabulated}
-use Rattle.tables.specs.Names.{name_of, free}
+use Prim.Native.Nat.{◌-◌, ◌≤◌}
+use Rattle.lists.proofs.Laid.{Laid}
 use Rattle.image.specs.Image.{decode}
-use Rattle.image_read.specs.Places.{tickets_in}
-use Rattle.image_find.proofs.Laws.{flattened}
-use Rattle.op_drop_tickets.specs.Marks.{mark_of, marks_of}
-use Rattle.op_drop_tickets.specs.Docked.{docked_with, docked_on}
+use Rattle.op_drop_tickets.specs.Marks.{mark_of}
+use Rattle.op_drop_tickets.specs.Docked.{docked_on}
 use Rattle.op_drop_tickets.proofs.mark_docked.Given as goal
 
 abbrev pub invariant-loop-i : goal.invariant-loop-i

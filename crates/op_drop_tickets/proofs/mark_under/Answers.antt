@@ -1,5 +1,4 @@
 -- What was written and found is the tables' own.
-use borrow.Author.Rules.{rules}
 use Rattle.image.specs.Image.{decode}
 use Rattle.op_drop_tickets.proofs.Steps.{marks_under}
 use Rattle.op_drop_tickets.proofs.mark_under.Goals as goal

@@ -1,6 +1,5 @@
 -- Marks, then entries, then tickets.
 use mathlib.Core.Path.{refl}
-use borrow.Author.Rules.{rules}
 use Rattle.image.proofs.RoundTrip.{image_whole}
 use Rattle.op_follow.proofs.ByNames.{followed}
 use Rattle.op_follow.proofs.drop_followed.Goals as goal

@@ -1,15 +1,9 @@
 -- The first i places have had their turn.
-use Prim.Native.Nat.{ℕ, ◌+◌, ◌-◌, ◌*◌, ◌≤◌}
-use native.Mathlib.Omega.{arith}
-use mathlib.Core.Path.{◌≡◌, refl, sym, ap, ◌∙◌}
-use borrow.Author.Rules.{rules}
+use Prim.Native.Nat.{◌-◌, ◌≤◌}
 use Rattle.tables.specs.Change.{drop_entries}
 use Rattle.image.specs.Image.{decode}
-use Rattle.image.proofs.RoundTrip.{image_whole}
 use Rattle.image_write.specs.Shows.{Holds}
-use Rattle.image_find.proofs.Laws.{flattened}
 use Rattle.op_follow.specs.Lent.{lent_by}
-use Rattle.op_follow.proofs.Turns.{begins, turned, passed, linked_now}
 use Rattle.op_follow.proofs.drop_lent.Given as goal
 
 abbrev pub invariant-loop-i : goal.invariant-loop-i

@@ -1,5 +1,4 @@
 -- The first field that is not good decides; where the first five are good, the last one does.
-use borrow.Author.Rules.{rules}
 use Rattle.lists.proofs.Tests.{passed, failed}
 use Rattle.machine.specs.Operation.{fields_ok}
 use mathlib.Core.Bool.{not}

@@ -2,12 +2,10 @@
 use native.Mathlib.Omega.{arith}
 use mathlib.Core.Path.{sym, ap, ◌∙◌}
 use mathlib.Core.Bool.{true, false}
-use mathlib.Core.Logic.{⊎_elim}
-use borrow.Author.Rules.{rules}
 use Rattle.machine.specs.Refusal.{◌when◌else◌}
 use Rattle.machine.specs.Operation.{used_by}
 use Rattle.op_form.specs.Early.{fields_of}
-use Rattle.op_form.proofs.Links.{Chosen, take_chosen, pass_chosen, ticket_chosen, sheet_chosen, bad_pad, bad_program, low_op, high_op, by_fields}
+use Rattle.op_form.proofs.Links.{take_chosen, pass_chosen, ticket_chosen, sheet_chosen, bad_pad, bad_program, low_op, high_op, by_fields}
 use Rattle.op_form.proofs.refusal.Goals as goal
 use Rattle.op_form.proofs.refusal.Goals.{in-1, in-2, in-3-to-4, in-5-to-6}
 

@@ -1,5 +1,4 @@
 -- The last number is written, then the ticket, if there is a free place for it.
-use borrow.Author.Rules.{rules}
 use Rattle.image.proofs.RoundTrip.{image_whole}
 use Rattle.op_insert.proofs.Inserted.{given_here, given_nowhere}
 use Rattle.op_insert.proofs.give.Goals as goal

@@ -1,5 +1,4 @@
 -- The entry is written, if there is a free place for it.
-use borrow.Author.Rules.{rules}
 use Rattle.image.proofs.RoundTrip.{image_whole}
 use Rattle.op_insert.proofs.Inserted.{made_here, made_nowhere}
 use Rattle.op_insert.proofs.make.Goals as goal

@@ -1,4 +1,3 @@
-use borrow.Author.Rules.{rules}
 use Rattle.tables.specs.Names.{entry_for}
 use Rattle.op_make.proofs.entry.Goals as goal
 

@@ -1,4 +1,3 @@
-use borrow.Author.Rules.{rules}
 use Rattle.tables.specs.Names.{grant_ticket}
 use Rattle.op_make.proofs.head.Goals as goal
 

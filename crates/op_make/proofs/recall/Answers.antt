@@ -1,4 +1,3 @@
-use borrow.Author.Rules.{rules}
 use Rattle.tables.specs.declared.Kind.TheVariants.{Recall}
 use Rattle.op_make.proofs.recall.Goals as goal
 

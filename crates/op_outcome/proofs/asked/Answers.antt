@@ -1,5 +1,4 @@
 use mathlib.Core.Path.{sym, ap, ◌∙◌}
-use borrow.Author.Rules.{rules}
 use Rattle.tables.specs.Lookup.{lookup}
 use Rattle.image.specs.Image.{decode}
 use Rattle.op_outcome.proofs.asked.Goals as goal

@@ -1,5 +1,4 @@
 use mathlib.Core.Path.{◌∙◌}
-use borrow.Author.Rules.{rules}
 use Rattle.image.specs.Image.{decode}
 use Rattle.op_outcome.proofs.Programs.{given_there}
 use Rattle.op_outcome.proofs.give.Goals as goal

@@ -1,4 +1,3 @@
-use borrow.Author.Rules.{rules}
 use Rattle.image.specs.Image.{decode}
 use Rattle.op_pass.proofs.Steps.{granted_near, granted_far}
 use Rattle.op_pass.proofs.grant.Goals as goal

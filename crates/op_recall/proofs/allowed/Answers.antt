@@ -1,4 +1,3 @@
-use borrow.Author.Rules.{rules}
 use Rattle.image.specs.Image.{decode}
 use Rattle.op_recall.proofs.allowed.Goals as goal
 

@@ -1,6 +1,5 @@
 use native.Mathlib.Omega.{arith}
 use mathlib.Core.Path.{sym, ap, ◌∙◌}
-use borrow.Author.Rules.{rules}
 use Rattle.tables.specs.declared.Name.{Name}
 use Rattle.image.specs.Image.{decode}
 use Rattle.image.proofs.RoundTrip.{image_whole}

@@ -1,5 +1,4 @@
 use mathlib.Core.Path.{sym, ap, ◌∙◌}
-use borrow.Author.Rules.{rules}
 use Rattle.tables.specs.declared.Ticket.{Ticket}
 use Rattle.tables.specs.Kinds.{is_taken}
 use Rattle.machine.specs.GiveBack.{give_back_refusal}

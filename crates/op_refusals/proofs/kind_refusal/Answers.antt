@@ -1,6 +1,5 @@
 use mathlib.Core.Path.{refl, sym, ap, ◌∙◌}
 use mathlib.Core.Bool.{not}
-use borrow.Author.Rules.{rules}
 use Rattle.op_check.proofs.Chains.{here, past}
 use Rattle.op_refusals.specs.Parts.{kind_refusal}
 use Rattle.op_refusals.proofs.kind_refusal.Goals as goal

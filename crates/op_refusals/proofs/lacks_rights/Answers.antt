@@ -1,6 +1,5 @@
 use mathlib.Core.Path.{sym, ap, ◌∙◌}
 use mathlib.Core.Bool.{Bool, not, ◌||◌}
-use borrow.Author.Rules.{rules}
 use Rattle.lists.proofs.Tests.{or_left}
 use Rattle.rights.specs.Rules.{within}
 use Rattle.op_refusals.proofs.lacks_rights.Goals as goal

@@ -1,10 +1,8 @@
 -- Where the search stands is `Sought`; behind the last sheet at which an entry begins, nothing is left to see.
-use Prim.Native.Nat.{◌-◌, ◌≤◌}
 use native.Mathlib.Omega.{arith}
-use borrow.Author.Rules.{rules}
 use Rattle.image_read.specs.Places.{entries_in}
 use Rattle.op_run.proofs.Runs.{bound_low, none_behind_bound}
-use Rattle.op_run.proofs.BestFit.{Sought, sought_none, sought_on, sought_more, sought_end}
+use Rattle.op_run.proofs.BestFit.{sought_none, sought_on, sought_more, sought_end}
 use Rattle.op_run.proofs.best_fit.Goals as goal
 
 pub loop-s-init : goal.loop-s-init

@@ -1,10 +1,6 @@
 -- Where the search stands is `Sought`; behind the last sheet at which an entry begins, nothing is left to see.
 use Prim.Native.Nat.{◌-◌, ◌≤◌}
-use native.Mathlib.Omega.{arith}
-use borrow.Author.Rules.{rules}
-use Rattle.image_read.specs.Places.{entries_in}
-use Rattle.op_run.proofs.Runs.{bound_low, none_behind_bound}
-use Rattle.op_run.proofs.BestFit.{Sought, sought_none, sought_on, sought_more, sought_end}
+use Rattle.op_run.proofs.BestFit.{Sought}
 use Rattle.op_run.proofs.best_fit.Given as goal
 
 abbrev pub invariant-loop-s : goal.invariant-loop-s

@@ -1,4 +1,3 @@
-use borrow.Author.Rules.{rules}
 use Rattle.op_run.proofs.BestFit.{no_sheets, too_short, not_smaller, smaller}
 use Rattle.op_run.proofs.better.Goals as goal
 

@@ -1,5 +1,4 @@
 -- By the tests that lead to each return.
-use borrow.Author.Rules.{rules}
 use borrow.Author.Tests.{not-true, not-false}
 use Rattle.op_run.proofs.Runs.{notes_dead, notes_high, notes}
 use Rattle.op_run.proofs.note_end.Goals as goal

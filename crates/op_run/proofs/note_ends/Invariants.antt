@@ -1,9 +1,7 @@
 -- What is noted, with what is left to note from the place i on, is all that is to be noted: `Noting`.
 use Prim.Native.Nat.{◌-◌}
-use borrow.Author.Rules.{rules}
 use Rattle.image_read.specs.Places.{entries_in}
-use Rattle.image_read.proofs.Places.{entries_long}
-use Rattle.op_run.proofs.Runs.{Noting, noting_none, noting_more, noting_end}
+use Rattle.op_run.proofs.Runs.{Noting}
 use Rattle.op_run.proofs.note_ends.Given as goal
 
 abbrev pub invariant-loop-i : goal.invariant-loop-i

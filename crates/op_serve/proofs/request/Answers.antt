@@ -1,5 +1,4 @@
 use native.Mathlib.Omega.{arith}
-use borrow.Author.Rules.{rules}
 use Rattle.image.specs.Image.{decode}
 use Rattle.image_find.proofs.Laws.{decoded_sized}
 use Rattle.op_serve.proofs.FromOrder.{ready}

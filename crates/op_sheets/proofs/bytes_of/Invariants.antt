@@ -1,9 +1,8 @@
 -- After i turns the array's first i bytes are those of the slice, the rest 0.
 use Prim.Native.Nat.{◌-◌, ◌≤◌}
-use native.Mathlib.Omega.{arith}
-use mathlib.Core.Path.{◌≡◌, refl, sym, ◌∙◌}
-use lib.ListN.{length, replicate, length-set}
-use Rattle.lists.proofs.Front.{front, front_none, front_more, front_end}
+use mathlib.Core.Path.{◌≡◌}
+use lib.ListN.{length, replicate}
+use Rattle.lists.proofs.Front.{front}
 use Rattle.op_sheets.proofs.bytes_of.Given as goal
 
 abbrev pub invariant-loop-i : goal.invariant-loop-i

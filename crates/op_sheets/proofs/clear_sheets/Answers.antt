@@ -3,7 +3,6 @@ use Prim.Native.Nat.{ℕ, ◌+◌, ◌-◌, ◌*◌}
 use native.Mathlib.Omega.{arith}
 use mathlib.Core.Path.{◌≡◌, ap, ◌∙◌}
 use lib.ListN.{length, take, drop, replicate, length-replicate, length-take, length-drop}
-use borrow.Author.Rules.{rules}
 use Rattle.machine.specs.State.{clear_sheets}
 use Rattle.op_sheets.proofs.Parts.{put_back}
 use Rattle.op_sheets.proofs.clear_sheets.Goals as goal

@@ -1,10 +1,9 @@
 -- After i turns the first i bytes are the array's, the rest as they were.
 use borrow.Author.Rules.{rules}
-use Prim.Native.Nat.{◌-◌, ◌≤◌}
 use native.Mathlib.Omega.{arith}
 use mathlib.Core.Path.{◌≡◌, ◌∙◌}
 use lib.ListN.{length, length-set}
-use Rattle.lists.proofs.Front.{front, front_none, front_more, front_end}
+use Rattle.lists.proofs.Front.{front_none, front_more, front_end}
 use Rattle.op_sheets.proofs.put.Goals as goal
 
 pub loop-i-init : goal.loop-i-init

@@ -1,9 +1,8 @@
 -- After i turns the first i bytes are the array's, the rest as they were.
 use Prim.Native.Nat.{◌-◌, ◌≤◌}
-use native.Mathlib.Omega.{arith}
-use mathlib.Core.Path.{◌≡◌, ◌∙◌}
-use lib.ListN.{length, length-set}
-use Rattle.lists.proofs.Front.{front, front_none, front_more, front_end}
+use mathlib.Core.Path.{◌≡◌}
+use lib.ListN.{length}
+use Rattle.lists.proofs.Front.{front}
 use Rattle.op_sheets.proofs.put.Given as goal
 
 abbrev pub invariant-loop-i : goal.invariant-loop-i

@@ -2,7 +2,6 @@
 use Prim.Native.Nat.{◌+◌, ◌-◌, ◌*◌}
 use native.Mathlib.Omega.{arith}
 use mathlib.Core.Path.{◌∙◌}
-use borrow.Author.Rules.{rules}
 use Rattle.op_sheets.proofs.Parts.{lent_sheet}
 use Rattle.op_sheets.proofs.read_sheet.Goals as goal
 

@@ -1,7 +1,6 @@
 -- The part lent to the copy comes back as the buffer's bytes.
 use Prim.Native.Nat.{◌+◌, ◌-◌, ◌*◌}
 use native.Mathlib.Omega.{arith}
-use borrow.Author.Rules.{rules}
 use Rattle.op_sheets.proofs.Parts.{put_back}
 use Rattle.op_sheets.proofs.write_sheet.Goals as goal
 

@@ -1,6 +1,5 @@
 use mathlib.Core.Path.{refl, ap, ◌∙◌}
 use mathlib.Core.List.{List}
-use borrow.Author.Rules.{rules}
 use Rattle.tables.specs.declared.Entry.{Entry}
 use Rattle.best_fit.specs.BestFit.{best_fit}
 use Rattle.image.specs.Image.{decode}

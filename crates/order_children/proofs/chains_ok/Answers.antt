@@ -1,6 +1,4 @@
 use mathlib.Core.Path.{sym, ◌∙◌}
-use borrow.Author.Rules.{rules}
-use borrow.Author.Tests.{not-true, not-false}
 use Rattle.image_read.specs.Places.{tickets_in}
 use Rattle.image_read.proofs.Places.{tickets_long}
 use Rattle.order_children.proofs.Heads.{parents_say, parents_missing, heads_decide, no_children}

@@ -1,12 +1,9 @@
 -- After i turns the first i children have passed, and the places of their parents are written.
-use Prim.Native.Nat.{ℕ, ◌-◌, ◌≤◌, ◌<◌}
+use Prim.Native.Nat.{ℕ}
 use native.Mathlib.Omega.{arith}
-use mathlib.Core.Path.{◌≡◌, sym, ap, subst, ◌∙◌}
-use mathlib.Core.Bool.{true}
+use mathlib.Core.Path.{sym, ap, subst, ◌∙◌}
 use lib.ListN.{length, get_or, length-replicate}
 use borrow.Author.Count.{below_more}
-use borrow.Author.Rules.{rules}
-use borrow.Author.Tests.{not-true, not-false}
 use Rattle.lists.proofs.Tests.{no_true}
 use Rattle.tables.specs.Kinds.{is_child}
 use Rattle.tables.specs.Names.{free}

@@ -1,20 +1,13 @@
 -- After i turns the first i children have passed, and the places of their parents are written.
 use Prim.Native.Nat.{ℕ, ◌-◌, ◌≤◌, ◌<◌}
-use native.Mathlib.Omega.{arith}
-use mathlib.Core.Path.{◌≡◌, sym, ap, subst, ◌∙◌}
+use mathlib.Core.Path.{◌≡◌}
 use mathlib.Core.Bool.{true}
-use lib.ListN.{length, get_or, length-replicate}
-use borrow.Author.Count.{below_more}
-use borrow.Author.Rules.{rules}
-use borrow.Author.Tests.{not-true, not-false}
-use Rattle.lists.proofs.Tests.{no_true}
-use Rattle.tables.specs.Kinds.{is_child}
+use lib.ListN.{length, get_or}
 use Rattle.tables.specs.Names.{free}
 use Rattle.image_read.specs.Places.{tickets_in}
-use Rattle.image_read.proofs.Places.{tickets_long}
-use Rattle.order_lists.proofs.Laws.{listed-allAt, listed_broken, Filled, filled_none, filled_at, filled_end}
-use Rattle.order_children.specs.Parts.{child_ok, children_ok}
-use Rattle.order_children.proofs.Children.{up_of, no_child, no_child_up, no_parent, by_parent, parent_up}
+use Rattle.order_lists.proofs.Laws.{Filled}
+use Rattle.order_children.specs.Parts.{child_ok}
+use Rattle.order_children.proofs.Children.{up_of}
 use Rattle.order_children.proofs.children_ok.Given as goal
 
 abbrev pub invariant-loop-i : goal.invariant-loop-i

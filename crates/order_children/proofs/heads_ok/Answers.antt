@@ -1,16 +1,11 @@
 -- After i turns the chains of the first i children have come to a head.
-use Prim.Native.Nat.{ℕ, ◌-◌, ◌≤◌, ◌<◌}
 use native.Mathlib.Omega.{arith}
-use mathlib.Core.Path.{◌≡◌, sym}
-use mathlib.Core.Bool.{true}
-use lib.Dec.{ltb}
-use lib.ListN.{length, get_or}
+use mathlib.Core.Path.{sym}
+use lib.ListN.{get_or}
 use borrow.Author.Count.{below_more}
-use borrow.Author.Rules.{rules}
 use Rattle.lists.proofs.Tests.{implies_intro}
 use Rattle.tables.specs.Kinds.{is_child}
 use Rattle.tables.specs.Names.{free}
-use Rattle.image_places.specs.Walk.{end_from}
 use Rattle.order_lists.proofs.Laws.{listed-allAt, listed_broken}
 use Rattle.order_children.specs.Parts.{heads_ok}
 use Rattle.order_children.proofs.Children.{headed, no_head_asked, head_missed, head_found}

@@ -1,7 +1,5 @@
 -- No entry listed: nothing to ask. Else the parents decide, and then their chains.
 use native.Mathlib.Omega.{arith}
-use borrow.Author.Rules.{rules}
-use borrow.Author.Tests.{not-true, not-false}
 use Rattle.image_read.proofs.Places.{entries_long}
 use Rattle.order_entries.proofs.Hanging.{no_links, links_listed, by_chains, none_hung}
 use Rattle.order_entries.proofs.hung_ok.Goals as goal

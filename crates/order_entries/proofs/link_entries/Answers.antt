@@ -1,12 +1,9 @@
-use Prim.Native.Nat.{ℕ, ◌-◌, ◌≤◌}
+use Prim.Native.Nat.{ℕ}
 use native.Mathlib.Omega.{arith}
-use mathlib.Core.Path.{◌≡◌, sym, ap, ◌∙◌}
+use mathlib.Core.Path.{sym, ap, ◌∙◌}
 use lib.ListN.{length, length-replicate}
-use borrow.Author.Rules.{rules}
-use borrow.Author.Tests.{not-true, not-false}
-use Rattle.image_read.specs.Places.{entries_in}
 use Rattle.image_read.proofs.Places.{entries_long}
-use Rattle.order_entries.proofs.Linking.{SoFar, linked_none, linked_lost, linked_bad, linked_more, linked_end}
+use Rattle.order_entries.proofs.Linking.{linked_none, linked_lost, linked_bad, linked_more, linked_end}
 use Rattle.order_entries.proofs.link_entries.Goals as goal
 
 pub loop-i-init : goal.loop-i-init

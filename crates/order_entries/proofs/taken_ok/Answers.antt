@@ -1,8 +1,7 @@
-use Prim.Native.Nat.{ℕ, ◌-◌, ◌≤◌, ◌<◌}
+use Prim.Native.Nat.{ℕ, ◌<◌}
 use native.Mathlib.Omega.{arith}
 use mathlib.Core.Path.{subst}
-use lib.ListN.{length, get_or}
-use borrow.Author.Rules.{rules}
+use lib.ListN.{get_or}
 use borrow.Author.Count.{below_none, below_more}
 use Rattle.order_entries.proofs.TakenSteps.{taken_broken, taken_all}
 use Rattle.order_entries.proofs.taken_ok.Goals as goal

@@ -1,10 +1,6 @@
-use Prim.Native.Nat.{ℕ, ◌<◌}
 use native.Mathlib.Omega.{arith}
 use mathlib.Core.Path.{refl}
-use borrow.Author.Rules.{rules}
-use borrow.Author.Tests.{not-true, not-false}
 use Rattle.order_entry_chains.proofs.Settling.{out_of_places, at_end, no_end, cut_behind}
-use Rattle.order_entry_chains.proofs.+settle.Lts-settle as settle-lts
 use Rattle.order_entry_chains.proofs.+settle.Goals as goal
 
 pub returns-then-left-eq0 : goal.returns-then-left-eq0

@@ -1,7 +1,5 @@
 -- Each return is `has_grant` decided.
 use native.Mathlib.Omega.{arith}
-use borrow.Author.Rules.{rules}
-use borrow.Author.Tests.{not-true, not-false}
 use Rattle.image_read.proofs.Places.{tickets_long}
 use Rattle.order_entry_notes.proofs.Noting.{place_missing, place_unfit, place_fit}
 use Rattle.order_entry_notes.proofs.grant_place.Goals as goal

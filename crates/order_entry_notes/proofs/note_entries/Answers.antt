@@ -1,11 +1,10 @@
 -- After i turns the first i places have passed: `Passed` says what is known then.
-use Prim.Native.Nat.{ℕ, ◌-◌, ◌≤◌}
+use Prim.Native.Nat.{ℕ}
 use native.Mathlib.Omega.{arith}
 use mathlib.Core.Path.{◌≡◌, sym, ap, ◌∙◌}
 use lib.ListN.{length, length-replicate}
-use borrow.Author.Rules.{rules}
 use Rattle.lists.proofs.Tests.{contradiction}
-use Rattle.order_entry_notes.proofs.Passing.{Passed, passed_none, bad_live, passed_free, bad_grant, bad_twice, passed_live, all_noted, all_listed}
+use Rattle.order_entry_notes.proofs.Passing.{passed_none, bad_live, passed_free, bad_grant, bad_twice, passed_live, all_noted, all_listed}
 use Rattle.order_entry_notes.proofs.note_entries.Goals as goal
 
 pub loop-i-init : goal.loop-i-init

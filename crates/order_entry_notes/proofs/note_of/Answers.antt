@@ -1,5 +1,4 @@
 use native.Mathlib.Omega.{arith}
-use borrow.Author.Rules.{rules}
 use Rattle.order_entry_notes.proofs.NoteSteps.{note_none, note_here}
 use Rattle.order_entry_notes.proofs.note_of.Goals as goal
 

@@ -1,5 +1,4 @@
 use mathlib.Core.Path.{◌∙◌}
-use borrow.Author.Rules.{rules}
 use Rattle.lists.specs.Tests.{implies}
 use Rattle.lists.proofs.Tests.{passed, failed}
 use Rattle.order_programs.specs.Parts.{grant_ok}

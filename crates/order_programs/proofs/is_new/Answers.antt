@@ -1,10 +1,6 @@
 -- After i turns none of the first i is the number.
-use Prim.Native.Nat.{ℕ, ◌-◌, ◌≤◌, ◌<◌}
 use native.Mathlib.Omega.{arith}
-use mathlib.Core.Path.{◌≡◌}
-use lib.ListN.{length, get_or}
 use borrow.Author.Count.{below_more}
-use borrow.Author.Rules.{rules}
 use Rattle.order_programs.proofs.Numbers.{found_old, none_old}
 use Rattle.order_programs.proofs.is_new.Goals as goal
 

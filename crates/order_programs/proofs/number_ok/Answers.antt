@@ -1,4 +1,3 @@
-use borrow.Author.Rules.{rules}
 use Rattle.lists.proofs.Tests.{passed, failed}
 use mathlib.Core.Bool.{not}
 use mathlib.Core.Path.{ap}

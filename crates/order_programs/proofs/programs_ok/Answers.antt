@@ -1,14 +1,13 @@
 -- After i turns the first i places have passed: `Passed` says what is known then.
-use Prim.Native.Nat.{ℕ, ◌-◌, ◌≤◌}
+use Prim.Native.Nat.{ℕ}
 use native.Mathlib.Omega.{arith}
 use mathlib.Core.Path.{◌≡◌, sym, ap, ◌∙◌}
 use mathlib.Core.Bool.{Bool, ◌&&◌}
 use lib.ListN.{length, length-replicate}
-use borrow.Author.Rules.{rules}
 use Rattle.lists.proofs.Tests.{contradiction, and_false, passed, failed}
 use Rattle.tables.specs.Order.{t1, t2, t4}
 use Rattle.image.specs.Image.{kinds_ok}
-use Rattle.order_programs.proofs.Passing.{Passed, passed_none, bad_kind, passed_free, bad_ticket, passed_live, all_pass, all_indexed}
+use Rattle.order_programs.proofs.Passing.{passed_none, bad_kind, passed_free, bad_ticket, passed_live, all_pass, all_indexed}
 use mathlib.Core.Bool.{not}
 use Rattle.order_programs.proofs.programs_ok.Goals as goal
 

@@ -2,7 +2,6 @@
 use Prim.Native.Nat.{ℕ}
 use mathlib.Core.Path.{sym, ap, ◌∙◌}
 use mathlib.Core.Bool.{◌&&◌}
-use borrow.Author.Rules.{rules}
 use Rattle.lists.specs.Tests.{between}
 use Rattle.lists.proofs.Tests.{passed, failed}
 use Rattle.order_programs.specs.Parts.{is_new, before, ticket_ok}

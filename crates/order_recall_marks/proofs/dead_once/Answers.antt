@@ -1,11 +1,10 @@
 -- `dead_once`: the list has the dead ones of the first i listed keys (`Dead` in Seen), and those keys are apart. A key in it was seen before.
-use Prim.Native.Nat.{ℕ, ◌-◌, ◌≤◌}
+use Prim.Native.Nat.{ℕ}
 use native.Mathlib.Omega.{arith}
 use mathlib.Core.Path.{sym, ap, ◌∙◌}
-use lib.ListN.{length, get_or, length-replicate}
+use lib.ListN.{get_or, length-replicate}
 use lib.Seq.{length-take-le}
-use borrow.Author.Rules.{rules}
-use Rattle.order_recall_marks.proofs.Seen.{Dead, dead_none, dead_skip, dead_more, dead_not, dead_end}
+use Rattle.order_recall_marks.proofs.Seen.{dead_none, dead_skip, dead_more, dead_not, dead_end}
 use Rattle.order_recall_marks.proofs.dead_once.Goals as goal
 
 pub loop-i-init : goal.loop-i-init

@@ -2,7 +2,6 @@
 use Prim.Native.Nat.{◌+◌, ◌*◌}
 use native.Mathlib.Omega.{arith}
 use mathlib.Core.Path.{◌≡◌, ◌∙◌}
-use borrow.Author.Rules.{rules}
 use Rattle.order_recall_marks.proofs.KeySteps.{dead_key, key_place, key_dead}
 use Rattle.order_recall_marks.proofs.key_of.Goals as goal
 

@@ -1,10 +1,7 @@
 -- `mark_places`: the marks are those of the first i listed keys (`Marks` in Seen), and those keys are apart. A marked place was seen before.
-use Prim.Native.Nat.{ℕ, ◌-◌, ◌≤◌}
-use native.Mathlib.Omega.{arith}
-use mathlib.Core.Path.{ap}
-use lib.ListN.{length, get_or}
-use borrow.Author.Rules.{rules}
-use Rattle.order_recall_marks.proofs.Seen.{Marks, marks_none, marks_skip, marks_more, marks_not, marks_end}
+use Prim.Native.Nat.{◌-◌, ◌≤◌}
+use lib.ListN.{length}
+use Rattle.order_recall_marks.proofs.Seen.{Marks}
 use Rattle.order_recall_marks.proofs.mark_places.Given as goal
 
 abbrev pub invariant-loop-i : goal.invariant-loop-i

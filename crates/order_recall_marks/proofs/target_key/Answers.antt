@@ -1,7 +1,6 @@
 -- `target_key`: not a recall, 256; a recall, the key of the place that was found for its target.
 use Prim.Native.Nat.{ℕ}
 use mathlib.Core.Path.{ap, ◌∙◌}
-use borrow.Author.Rules.{rules}
 use Rattle.lists.proofs.Tests.{passed, failed}
 use Rattle.order_recall_marks.specs.Keys.{key_of}
 use Rattle.order_recall_marks.proofs.KeySteps.{key_none, key_recall}

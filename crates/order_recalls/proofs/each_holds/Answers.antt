@@ -1,14 +1,10 @@
 -- `each_holds`: before each turn the recalls at the first i listed places hold, in any tables that are laid out so. Each way through a turn
 -- ends in one of the cases of OneRecall: the recall does not hold, and the answer is no, or it does.
-use Prim.Native.Nat.{ℕ, ◌-◌, ◌≤◌}
+use Prim.Native.Nat.{ℕ, ◌≤◌}
 use native.Mathlib.Omega.{arith}
 use mathlib.Core.Path.{subst}
-use lib.ListN.{length}
-use borrow.Author.Rules.{rules}
 use Rattle.lists.proofs.Tests.{passed, failed}
-use Rattle.tables.specs.declared.Tables.{Tables}
-use Rattle.order_recalls.specs.Recalls.{LaidOut}
-use Rattle.order_recalls.proofs.OneRecall.{pick, has_key, Held, held_more, held_end, no_grant, bad_grant, near_none, near_bad, near_ok, not_given, far_none, far_bad, far_ok}
+use Rattle.order_recalls.proofs.OneRecall.{pick, has_key, held_more, held_end, no_grant, bad_grant, near_none, near_bad, near_ok, not_given, far_none, far_bad, far_ok}
 use mathlib.Core.Bool.{not}
 use mathlib.Core.Path.{ap}
 use Rattle.order_recalls.proofs.each_holds.Goals as goal

@@ -3,8 +3,6 @@ use native.Mathlib.Omega.{arith}
 use mathlib.Core.Path.{◌≡◌, sym, ap, ◌∙◌}
 use mathlib.Core.Bool.{Bool, not, ◌&&◌}
 use lib.ListN.{get_or, get_or-eq_default}
-use borrow.Author.Tests.{not-true, not-false}
-use borrow.Author.Rules.{rules}
 use Rattle.tables.specs.declared.Ticket.{Ticket}
 use Rattle.tables.specs.Names.{free}
 use Rattle.tables.specs.Kinds.{is_child}

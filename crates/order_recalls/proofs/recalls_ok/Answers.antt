@@ -3,7 +3,6 @@
 use native.Mathlib.Omega.{arith}
 use mathlib.Core.Path.{sym, subst, ◌∙◌}
 use borrow.Author.Rules.{rules}
-use borrow.Author.Tests.{not-false}
 use Rattle.lists.proofs.Tests.{passed, failed}
 use Rattle.image_read.specs.Places.{tickets_in}
 use Rattle.image_read.proofs.Places.{tickets_long}

@@ -3,7 +3,6 @@ use Prim.Native.Nat.{ℕ}
 use native.Mathlib.Omega.{arith}
 use mathlib.Core.Path.{ap, ◌∙◌}
 use lib.ListN.{get_or}
-use borrow.Author.Rules.{rules}
 use Rattle.lists.specs.Tests.{between}
 use Rattle.image_read.specs.Places.{lasts_in}
 use Rattle.order_recalls.proofs.OneRecall.{not_given_pad, not_given_program, given_number}

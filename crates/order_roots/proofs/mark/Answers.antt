@@ -1,9 +1,6 @@
-use Prim.Native.Nat.{◌-◌, ◌≤◌}
 use native.Mathlib.Omega.{arith}
-use mathlib.Core.Path.{◌≡◌, refl, ◌∙◌}
-use lib.ListN.{length, length-set}
-use borrow.Author.Rules.{rules}
-use Rattle.order_roots.specs.Marks.{Fresh}
+use mathlib.Core.Path.{refl, ◌∙◌}
+use lib.ListN.{length-set}
 use Rattle.order_roots.proofs.Marking.{fresh_none, fresh_more, hit, all_fresh, one_shared}
 use Rattle.order_roots.proofs.mark.Goals as goal
 

@@ -1,10 +1,7 @@
 use Prim.Native.Nat.{◌-◌, ◌≤◌}
-use native.Mathlib.Omega.{arith}
-use mathlib.Core.Path.{◌≡◌, refl, ◌∙◌}
-use lib.ListN.{length, length-set}
-use borrow.Author.Rules.{rules}
+use mathlib.Core.Path.{◌≡◌}
+use lib.ListN.{length}
 use Rattle.order_roots.specs.Marks.{Fresh}
-use Rattle.order_roots.proofs.Marking.{fresh_none, fresh_more, hit, all_fresh, one_shared}
 use Rattle.order_roots.proofs.mark.Given as goal
 
 abbrev pub invariant-loop-i : goal.invariant-loop-i

@@ -1,13 +1,8 @@
-use Prim.Native.Nat.{◌-◌, ◌≤◌}
 use native.Mathlib.Omega.{arith}
-use mathlib.Core.Path.{◌≡◌, refl}
-use lib.ListN.{length}
+use mathlib.Core.Path.{refl}
 use borrow.Author.Rules.{rules}
-use borrow.Author.Tests.{not-true, not-false}
-use Rattle.image_read.specs.Places.{entries_in}
 use Rattle.image_read.proofs.Places.{entries_long}
-use Rattle.order_roots.specs.Marks.{Spanned}
-use Rattle.order_roots.proofs.Roots.{Swept, swept_none, swept_past, swept_more, swept_shared, swept_end}
+use Rattle.order_roots.proofs.Roots.{swept_none, swept_past, swept_more, swept_shared, swept_end}
 use Rattle.order_roots.proofs.roots_apart.Goals as goal
 
 pub loop-i-init : goal.loop-i-init

@@ -1,6 +1,5 @@
 use mathlib.Core.Path.{◌∙◌}
 use borrow.Author.Tests.{not-true, not-false}
-use borrow.Author.Rules.{rules}
 use Rattle.lists.specs.Tests.{implies}
 use Rattle.lists.proofs.Tests.{passed, failed}
 use Rattle.order_rules.proofs.Spans.{of_spans}

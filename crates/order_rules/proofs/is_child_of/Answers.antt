@@ -1,5 +1,4 @@
 use mathlib.Core.Path.{◌∙◌}
-use borrow.Author.Rules.{rules}
 use Rattle.lists.proofs.Tests.{passed, failed}
 use Rattle.tables.specs.Order.{is_child_of}
 use mathlib.Core.Bool.{not}

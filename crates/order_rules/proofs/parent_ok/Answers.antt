@@ -1,6 +1,5 @@
 use mathlib.Core.Path.{◌∙◌}
 use borrow.Author.Tests.{eq-eqb, ne_eqb}
-use borrow.Author.Rules.{rules}
 use Rattle.lists.proofs.Tests.{passed, failed}
 use Rattle.tables.specs.Order.{parent_ok}
 use Rattle.order_rules.proofs.Spans.{of_spans}

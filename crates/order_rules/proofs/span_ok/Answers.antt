@@ -1,6 +1,5 @@
 use mathlib.Core.Path.{◌∙◌}
 use borrow.Author.Tests.{le-leb, lt-leb}
-use borrow.Author.Rules.{rules}
 use Rattle.tables.specs.Order.{span_ok}
 use Rattle.order_rules.proofs.span_ok.Goals as goal
 

@@ -1,7 +1,6 @@
 -- The word's bit is the chart's answer, by Chart; the word computes to the code's literal.
 use Prim.Native.Nat.{◌%◌}
 use native.Mathlib.Omega.{arith}
-use borrow.Author.Rules.{rules}
 use Rattle.lists.specs.Parts.{joined}
 use Rattle.rights.specs.Chart.{chart}
 use Rattle.rights.proofs.Chart.{word, word_is_chart}

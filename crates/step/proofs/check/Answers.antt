@@ -1,6 +1,5 @@
 -- 13 and 14 as the order test says; past them the dock's check of the entry that was found.
 use mathlib.Core.Path.{sym, ◌∙◌}
-use borrow.Author.Rules.{rules}
 use Rattle.machine.specs.Refusal.{◌when◌else◌}
 use Rattle.machine.specs.Dock.{dock_check}
 use Rattle.image.specs.Image.{decode}

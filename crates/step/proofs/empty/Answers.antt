@@ -1,5 +1,4 @@
 -- Zeros are the image of empty tables.
-use borrow.Author.Rules.{rules}
 use Rattle.step.proofs.Emptying.{not_emptied, tables_emptied, all_emptied}
 use Rattle.step.proofs.empty.Goals as goal
 

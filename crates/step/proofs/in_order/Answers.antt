@@ -1,7 +1,5 @@
 -- The length, then the one test of the tables.
 use mathlib.Core.Path.{sym, ◌∙◌}
-use borrow.Author.Tests.{not-true, not-false}
-use borrow.Author.Rules.{rules}
 use Rattle.lending.proofs.Refusals.{tables_told, order_13, order_14, order_0}
 use Rattle.step.proofs.in_order.Goals as goal
 

@@ -1,6 +1,5 @@
 -- The lengths, then the order test.
 use mathlib.Core.Path.{◌∙◌}
-use borrow.Author.Rules.{rules}
 use Rattle.lending.proofs.Refusals.{other_store, other_sheet, then_order}
 use Rattle.step.proofs.refusal.Goals as goal
 

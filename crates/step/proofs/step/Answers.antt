@@ -1,7 +1,6 @@
 -- 13 and 14 leave everything as it is; past them the step is serving.
 use native.Mathlib.Omega.{arith}
 use mathlib.Core.Path.{sym, ◌∙◌}
-use borrow.Author.Rules.{rules}
 use Rattle.lending.proofs.Refusals.{tables_image, tables_order, not_refused}
 use Rattle.step.proofs.Stepping.{as_refused, as_served}
 use Rattle.step.proofs.step.Goals as goal

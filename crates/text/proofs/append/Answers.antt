@@ -1,6 +1,5 @@
 -- A text that fits is put to the front of the rest of the output.
 use native.Mathlib.Omega.{arith}
-use borrow.Author.Rules.{rules}
 use Rattle.text.proofs.Appending.{append_written, append_beyond}
 use Rattle.text.proofs.append.Goals as goal
 

@@ -2,7 +2,6 @@
 use native.Mathlib.Omega.{arith}
 use mathlib.Core.Path.{◌∙◌}
 use lib.ListN.{length}
-use borrow.Author.Rules.{rules}
 use Rattle.text.specs.Writing.{values_line}
 use Rattle.text.proofs.Appending.{counted_all, room_behind, append_rest, append_beyond}
 use Rattle.text.proofs.append_values.Goals as goal

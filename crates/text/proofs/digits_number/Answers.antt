@@ -1,12 +1,10 @@
 -- After i turns n is the number that the first i bytes make, all of them digits: the rest decides, from n on.
-use Prim.Native.Nat.{ℕ, ◌+◌, ◌-◌, ◌*◌, ◌≤◌, ◌<◌}
+use Prim.Native.Nat.{ℕ, ◌+◌, ◌-◌, ◌*◌}
 use native.Mathlib.Omega.{arith}
-use mathlib.Core.Path.{◌≡◌, refl, sym, ap, ◌∙◌}
-use lib.ListN.{length, drop}
-use borrow.Author.Rules.{rules}
-use Rattle.lists.specs.Lists.{all}
+use mathlib.Core.Path.{refl, sym, ap, ◌∙◌}
+use lib.ListN.{drop}
 use Rattle.lists.proofs.Loops.{all_pass, all_fail, all_end_lem}
-use Rattle.text.specs.Reading.{is_digit, number_from, number}
+use Rattle.text.specs.Reading.{is_digit, number_from}
 use Rattle.text.proofs.NumberLaws.{digit_yes, digit_low, digit_high, number_from_lem, number_end, no_digit, too_large, in_range}
 use Rattle.text.proofs.digits_number.Goals as goal
 

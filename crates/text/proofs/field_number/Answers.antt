@@ -2,7 +2,6 @@
 use native.Mathlib.Omega.{arith}
 use mathlib.Core.Path.{sym, ap, ◌∙◌}
 use mathlib.Core.Bool.{Bool}
-use borrow.Author.Rules.{rules}
 use Rattle.text.specs.FieldNumber.{number_or}
 use Rattle.text.proofs.NumberLaws.{no_field, one_digit, leading_zero, no_zero}
 use Rattle.text.proofs.field_number.Goals as goal

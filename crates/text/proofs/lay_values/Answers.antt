@@ -1,9 +1,6 @@
 -- The output has the first `at` bytes of the line, and the values from place i on make the rest.
-use Prim.Native.Nat.{◌-◌}
 use native.Mathlib.Omega.{arith}
-use lib.ListN.{length}
-use borrow.Author.Rules.{rules}
-use Rattle.text.proofs.WritingSteps.{Laid, laid_none, laid_room, laid_more, laid_end}
+use Rattle.text.proofs.WritingSteps.{laid_none, laid_room, laid_more, laid_end}
 use Rattle.text.proofs.lay_values.Goals as goal
 
 pub loop-i-init : goal.loop-i-init

@@ -1,9 +1,7 @@
 -- The output has the first `at` bytes of the line, and the values from place i on make the rest.
 use Prim.Native.Nat.{◌-◌}
-use native.Mathlib.Omega.{arith}
 use lib.ListN.{length}
-use borrow.Author.Rules.{rules}
-use Rattle.text.proofs.WritingSteps.{Laid, laid_none, laid_room, laid_more, laid_end}
+use Rattle.text.proofs.WritingSteps.{Laid}
 use Rattle.text.proofs.lay_values.Given as goal
 
 abbrev pub invariant-loop-i : goal.invariant-loop-i

@@ -1,11 +1,9 @@
 -- The line is `total` bytes for the values in front of place i, and the line of those from there on.
-use Prim.Native.Nat.{◌+◌, ◌-◌, ◌≤◌}
+use Prim.Native.Nat.{◌+◌}
 use native.Mathlib.Omega.{arith}
-use mathlib.Core.Path.{◌≡◌, sym, ap, ◌∙◌}
-use lib.ListN.{length, get_or, drop}
-use borrow.Author.Rules.{rules}
-use Rattle.text.specs.Writing.{values_line}
-use Rattle.text.specs.Appending.{highest_count, counted}
+use mathlib.Core.Path.{sym, ap, ◌∙◌}
+use lib.ListN.{get_or}
+use Rattle.text.specs.Appending.{counted}
 use Rattle.text.proofs.WritingLaws.{places_most}
 use Rattle.text.proofs.WritingSteps.{count_more, count_end}
 use Rattle.text.proofs.Appending.{counted_all, counted_most}

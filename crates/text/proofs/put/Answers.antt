@@ -1,10 +1,8 @@
 -- After i turns the first i bytes of the output are the text's, the rest as they were.
-use Prim.Native.Nat.{◌-◌, ◌≤◌}
 use native.Mathlib.Omega.{arith}
-use mathlib.Core.Path.{◌≡◌, ◌∙◌}
-use lib.ListN.{length, length-set}
-use borrow.Author.Rules.{rules}
-use Rattle.lists.proofs.Front.{front, front_none, front_more, front_over}
+use mathlib.Core.Path.{◌∙◌}
+use lib.ListN.{length-set}
+use Rattle.lists.proofs.Front.{front_none, front_more, front_over}
 use Rattle.text.proofs.WritingLaws.{writes_none, writes_all}
 use Rattle.text.proofs.put.Goals as goal
 

@@ -1,11 +1,7 @@
 -- i digits are still to be put down, those of the rest: with them in front the output is as it will be.
-use Prim.Native.Nat.{◌≤◌}
 use native.Mathlib.Omega.{arith}
-use mathlib.Core.Path.{◌≡◌, refl, ◌∙◌}
-use mathlib.Core.List.{◌++◌}
-use lib.ListN.{length, drop, length-set}
-use borrow.Author.Rules.{rules}
-use Rattle.text.specs.Writing.{digits}
+use mathlib.Core.Path.{refl, ◌∙◌}
+use lib.ListN.{length-set}
 use Rattle.text.proofs.WritingLaws.{digits_more, digits_none}
 use Rattle.text.proofs.put_digits.Goals as goal
 

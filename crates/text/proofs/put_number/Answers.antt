@@ -1,7 +1,6 @@
 -- The digits are as many as the number has places.
 use native.Mathlib.Omega.{arith}
 use mathlib.Core.Path.{sym, ◌∙◌}
-use borrow.Author.Rules.{rules}
 use Rattle.text.proofs.WritingLaws.{writes_none, writes_all, length_decimal, decimal_digits}
 use Rattle.text.proofs.put_number.Goals as goal
 

@@ -2,7 +2,6 @@
 use native.Mathlib.Omega.{arith}
 use mathlib.Core.Path.{◌∙◌}
 use lib.ListN.{length}
-use borrow.Author.Rules.{rules}
 use Rattle.text.specs.Writing.{values_line}
 use Rattle.text.proofs.WritingLaws.{writes_none, writes_all}
 use Rattle.text.proofs.Appending.{counted_all, counted_room, counted_beyond}

@@ -1,11 +1,8 @@
 -- After i turns the first i bytes are the same: the rests decide.
 use Prim.Native.Nat.{◌-◌, ◌≤◌}
-use native.Mathlib.Omega.{arith}
-use mathlib.Core.Path.{◌≡◌, refl}
+use mathlib.Core.Path.{◌≡◌}
 use lib.ListN.{length, drop}
-use borrow.Author.Rules.{rules}
 use Rattle.text.specs.Bytes.{same_bytes}
-use Rattle.text.proofs.NamesLaws.{other_length, same_from, differ_here, same_end}
 use Rattle.text.proofs.same.Given as goal
 
 abbrev pub invariant-loop-i : goal.invariant-loop-i

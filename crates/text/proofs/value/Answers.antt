@@ -3,7 +3,6 @@ use native.Mathlib.Omega.{arith}
 use mathlib.Core.Path.{sym}
 use lib.Dec.{eqb}
 use lib.Seq.{length-take-le}
-use borrow.Author.Rules.{rules}
 use Rattle.lists.proofs.Search.{first_within}
 use Rattle.text.proofs.NumberLaws.{other_read, number_read}
 use Rattle.text.proofs.value.Goals as goal

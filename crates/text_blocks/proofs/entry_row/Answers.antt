@@ -1,4 +1,3 @@
-use borrow.Author.Rules.{rules}
 use Rattle.text_blocks.proofs.RowLaws.{row_with_lem}
 use Rattle.text_blocks.proofs.entry_row.Goals as goal
 

@@ -1,6 +1,5 @@
 -- One return for each sort of block.
 use native.Mathlib.Omega.{arith}
-use borrow.Author.Rules.{rules}
 use Rattle.image.specs.Image.{decode}
 use Rattle.saved_blocks.proofs.BlockLaws.{block_tickets, block_entries}
 use Rattle.text_blocks.proofs.Rounds.{block_room, block_put, last_room, last_put}

@@ -1,8 +1,5 @@
 -- The lines of the blocks below m are put.
-use Prim.Native.Nat.{◌-◌}
-use borrow.Author.Rules.{rules}
-use Rattle.image.specs.Image.{decode}
-use Rattle.text_blocks.proofs.Rounds.{Round, round_none, round_end, round_room, round_more}
+use Rattle.text_blocks.proofs.Rounds.{round_none, round_end, round_room, round_more}
 use Rattle.text_blocks.proofs.put_blocks.Goals as goal
 
 pub loop-m-init : goal.loop-m-init

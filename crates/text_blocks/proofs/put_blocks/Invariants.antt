@@ -1,8 +1,7 @@
 -- The lines of the blocks below m are put.
 use Prim.Native.Nat.{◌-◌}
-use borrow.Author.Rules.{rules}
 use Rattle.image.specs.Image.{decode}
-use Rattle.text_blocks.proofs.Rounds.{Round, round_none, round_end, round_room, round_more}
+use Rattle.text_blocks.proofs.Rounds.{Round}
 use Rattle.text_blocks.proofs.put_blocks.Given as goal
 
 abbrev pub invariant-loop-m : goal.invariant-loop-m

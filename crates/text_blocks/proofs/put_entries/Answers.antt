@@ -1,10 +1,8 @@
 -- The lines of the entries whose grants have a number up to `after` are put.
-use Prim.Native.Nat.{◌-◌}
 use native.Mathlib.Omega.{arith}
-use borrow.Author.Rules.{rules}
 use Rattle.image.specs.Image.{decode}
 use Rattle.saved_blocks.specs.Blocks.{has_entry, entry_line, entry_lines}
-use Rattle.text_blocks.proofs.Going.{last, Going, going_none, going_end, going_rises, going_given, going_passes, going_room, going_more}
+use Rattle.text_blocks.proofs.Going.{going_none, going_end, going_rises, going_given, going_passes, going_room, going_more}
 use Rattle.text_blocks.proofs.Chosen.{entries}
 use Rattle.text_blocks.proofs.put_entries.Goals as goal
 

@@ -1,5 +1,4 @@
 use mathlib.Core.Path.{◌∙◌}
-use borrow.Author.Rules.{rules}
 use Rattle.text_blocks.proofs.RowLaws.{last_row_lem}
 use Rattle.text_blocks.proofs.Lines.{line_room_lem, line_put}
 use Rattle.text_blocks.proofs.put_last.Goals as goal

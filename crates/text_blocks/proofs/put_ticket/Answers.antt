@@ -1,6 +1,5 @@
 use Prim.Native.Nat.{◌/◌, ◌%◌}
 use mathlib.Core.Path.{ap, ◌∙◌}
-use borrow.Author.Rules.{rules}
 use Rattle.saved.specs.Save.{ticket_row}
 use Rattle.text_blocks.proofs.Lines.{line_room_lem, line_put}
 use Rattle.text_blocks.proofs.put_ticket.Goals as goal

@@ -1,11 +1,8 @@
 -- The lines of the tickets of the kind with a number up to `after` are put.
 use Prim.Native.Nat.{◌-◌}
-use native.Mathlib.Omega.{arith}
-use borrow.Author.Rules.{rules}
 use Rattle.image.specs.Image.{decode}
-use Rattle.saved_blocks.specs.Blocks.{of_kind, ticket_line, ticket_lines}
-use Rattle.text_blocks.proofs.Going.{last, Going, going_none, going_end, going_rises, going_given, going_room, going_more}
-use Rattle.text_blocks.proofs.Chosen.{tickets}
+use Rattle.saved_blocks.specs.Blocks.{of_kind, ticket_line}
+use Rattle.text_blocks.proofs.Going.{last, Going}
 use Rattle.text_blocks.proofs.put_tickets.Given as goal
 
 abbrev pub invariant-loop-i : goal.invariant-loop-i

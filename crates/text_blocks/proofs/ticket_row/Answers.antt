@@ -1,6 +1,5 @@
 -- One arm for each kind.
 use mathlib.Core.Path.{◌∙◌}
-use borrow.Author.Rules.{rules}
 use Rattle.tables.specs.declared.Kind.TheVariants.{Free, Taken, Received, Child, Recall}
 use Rattle.tables.specs.Same.{said_by}
 use Rattle.text_blocks.proofs.RowLaws.{row_by_lem}

@@ -1,6 +1,4 @@
-use Prim.Native.Nat.{◌-◌}
 use mathlib.Core.Path.{sym, ap}
-use borrow.Author.Rules.{rules}
 use Rattle.tables.specs.Chains.{parent_by}
 use Rattle.tables.specs.declared.Kind.{Kind}
 use Rattle.text_docks.proofs.parent_by.Goals as goal

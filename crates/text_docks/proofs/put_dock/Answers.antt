@@ -1,7 +1,5 @@
-use Prim.Native.Nat.{◌-◌}
 use mathlib.Core.Path.{subst}
-use borrow.Author.Rules.{rules}
-use lib.ListN.{length, set}
+use lib.ListN.{set}
 use Rattle.image.proofs.RoundTrip.{image_whole}
 use Rattle.text_docks.specs.Docks.{with_dock}
 use Rattle.image_write.specs.Shows.{Shows}

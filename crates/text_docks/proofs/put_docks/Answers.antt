@@ -1,10 +1,7 @@
-use Prim.Native.Nat.{◌-◌}
 use mathlib.Core.Path.{sym, ◌∙◌}
 use native.Mathlib.Omega.{arith}
-use borrow.Author.Rules.{rules}
-use lib.ListN.{length}
 use Rattle.image.proofs.RoundTrip.{image_whole}
-use Rattle.text_docks.proofs.Docking.{Docking, begins, ends, dock_put, none_put}
+use Rattle.text_docks.proofs.Docking.{begins, ends, dock_put, none_put}
 use Rattle.text_docks.proofs.put_docks.Goals as goal
 
 pub loop-place-init : goal.loop-place-init

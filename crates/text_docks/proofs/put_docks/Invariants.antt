@@ -1,10 +1,5 @@
 use Prim.Native.Nat.{◌-◌}
-use mathlib.Core.Path.{sym, ◌∙◌}
-use native.Mathlib.Omega.{arith}
-use borrow.Author.Rules.{rules}
-use lib.ListN.{length}
-use Rattle.image.proofs.RoundTrip.{image_whole}
-use Rattle.text_docks.proofs.Docking.{Docking, begins, ends, dock_put, none_put}
+use Rattle.text_docks.proofs.Docking.{Docking}
 use Rattle.text_docks.proofs.put_docks.Given as goal
 
 abbrev pub invariant-loop-place : goal.invariant-loop-place

@@ -1,5 +1,3 @@
-use Prim.Native.Nat.{◌-◌}
-use borrow.Author.Rules.{rules}
 use Rattle.saved.specs.Load.{entry_from}
 use mathlib.Core.Bool.{true}
 use Rattle.text_fill.proofs.entry_in.Goals as goal

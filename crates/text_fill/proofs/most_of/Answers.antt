@@ -1,4 +1,3 @@
-use Prim.Native.Nat.{◌-◌}
 use Rattle.text_fill.specs.Filling.{most_of}
 use Rattle.saved.specs.Row.{is_last_row, is_entry_row}
 use borrow.Author.Tests.{eq-eqb, ne_eqb}

@@ -1,8 +1,7 @@
-use Prim.Native.Nat.{ℕ, ◌-◌}
+use Prim.Native.Nat.{ℕ}
 use mathlib.Core.Path.{refl, ap, ◌∙◌}
 use native.Mathlib.Omega.{arith}
-use borrow.Author.Rules.{rules}
-use lib.ListN.{length, get_or}
+use lib.ListN.{get_or}
 use Rattle.text_fill.proofs.Putting.{tallied, entry_place_lem, ticket_place, place_low_lem, filled_last, filled_entry, filled_ticket}
 use Rattle.saved.proofs.RowLaws.{ranges}
 use Rattle.text_fill.proofs.Sorts.{is_last_row_lem, is_entry_row_lem, is_ticket_row_lem, sort_low, sort_last, sort_ticket, most_entry, most_high}

@@ -1,6 +1,5 @@
-use Prim.Native.Nat.{◌+◌, ◌-◌, ◌*◌}
+use Prim.Native.Nat.{◌+◌, ◌*◌}
 use mathlib.Core.Path.{sym, ◌∙◌}
-use borrow.Author.Rules.{rules}
 use Rattle.text_fill.proofs.Sorts.{is_last_row_lem, is_entry_row_lem, is_ticket_row_lem, sort_last, sort_entry, sort_ticket}
 use Rattle.text_fill.proofs.sort_of.Goals as goal
 

@@ -1,5 +1,3 @@
-use Prim.Native.Nat.{◌-◌}
-use borrow.Author.Rules.{rules}
 use Rattle.saved.specs.Load.{ticket_from}
 use Rattle.text_fill.proofs.ticket_in.Goals as goal
 

@@ -1,5 +1,4 @@
 use mathlib.Core.Path.{ap}
-use borrow.Author.Rules.{rules}
 use Rattle.tables.specs.declared.Ticket.{Ticket}
 use Rattle.text_grants.proofs.count_at.Goals as goal
 

@@ -1,8 +1,6 @@
 -- The taken grants with a number up to `after` are printed, and their sheets added.
 use Prim.Native.Nat.{◌-◌}
-use native.Mathlib.Omega.{arith}
-use borrow.Author.Rules.{rules}
-use Rattle.text_grants.proofs.Grants.{last, Going, going_none, going_end, going_rises, going_given, going_sheets, going_fits, going_more}
+use Rattle.text_grants.proofs.Grants.{last, Going}
 use Rattle.text_grants.proofs.put_program.Given as goal
 
 abbrev pub invariant-loop-i : goal.invariant-loop-i

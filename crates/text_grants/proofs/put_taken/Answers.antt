@@ -1,7 +1,5 @@
 -- The taken grants of the programs below `program` are printed.
-use Prim.Native.Nat.{◌-◌}
-use borrow.Author.Rules.{rules}
-use Rattle.text_grants.proofs.Programs.{Round, round_none, round_end, round_ready, round_few, round_more}
+use Rattle.text_grants.proofs.Programs.{round_none, round_end, round_ready, round_few, round_more}
 use Rattle.text_grants.proofs.put_taken.Goals as goal
 
 pub loop-program-init : goal.loop-program-init

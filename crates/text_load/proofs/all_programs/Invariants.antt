@@ -1,14 +1,8 @@
 use Prim.Native.Nat.{ℕ, ◌-◌, ◌≤◌, ◌<◌}
-use mathlib.Core.Path.{◌≡◌, sym}
-use native.Mathlib.Omega.{arith}
-use borrow.Author.Rules.{rules}
+use mathlib.Core.Path.{◌≡◌}
 use lib.ListN.{get_or}
-use mathlib.Core.Bool.{true, false}
+use mathlib.Core.Bool.{true}
 use lib.Dec.{ltb}
-use borrow.Author.Tests.{lt-ltb, le-ltb}
-use Rattle.lists.proofs.Loops.{so_far}
-use Rattle.lists.proofs.PartLaws.{every_intro, every_broken}
-use Rattle.saved.specs.Save.{programs}
 use Rattle.text_load.proofs.all_programs.Given as goal
 
 abbrev pub invariant-loop-i : goal.invariant-loop-i

@@ -1,5 +1,3 @@
-use Prim.Native.Nat.{◌-◌}
-use borrow.Author.Rules.{rules}
 use Rattle.text_load.proofs.WholeText.{not_ended, ended_by}
 use Rattle.text_load.proofs.is_ended.Goals as goal
 

@@ -1,12 +1,9 @@
-use Prim.Native.Nat.{ℕ, ◌-◌}
+use Prim.Native.Nat.{ℕ}
 use mathlib.Core.Path.{sym, ap, ◌∙◌}
 use native.Mathlib.Omega.{arith}
-use borrow.Author.Rules.{rules}
-use lib.ListN.{length}
 use Rattle.text_load.proofs.WholeLoad.{other_length, other_form, read_whole, not_in_order, accepted}
 use Rattle.image.proofs.RoundTrip.{image_whole}
 use Rattle.lists.proofs.Tests.{passed, failed}
-use borrow.Author.Tests.{not-false}
 use lib.ListN.{replicate}
 use mathlib.Core.Bool.{not}
 use Rattle.text_load.proofs.load_lent.Goals as goal

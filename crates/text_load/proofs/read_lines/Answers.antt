@@ -1,7 +1,6 @@
-use Prim.Native.Nat.{ℕ, ◌+◌, ◌-◌, ◌≤◌, ◌<◌}
+use Prim.Native.Nat.{ℕ, ◌≤◌, ◌<◌}
 use mathlib.Core.Path.{◌≡◌, sym, ap, ◌∙◌}
 use native.Mathlib.Omega.{arith}
-use borrow.Author.Rules.{rules}
 use lib.ListN.{length}
 use lib.ListN.{length-replicate}
 use borrow.Author.Tests.{ltb-true}
@@ -9,7 +8,7 @@ use Rattle.lists.proofs.Tests.{passed, failed}
 use Rattle.image.specs.Layout.{image_size}
 use Rattle.image.proofs.RoundTrip.{image_whole}
 use Rattle.text.proofs.NextLine.{line_inside}
-use Rattle.text_load.proofs.Lines.{row_in_form, key_low, not_above, no_room, may_follow_lem, Going, begins, other_form, not_next, goes_on, ends}
+use Rattle.text_load.proofs.Lines.{row_in_form, key_low, not_above, no_room, may_follow_lem, begins, other_form, not_next, goes_on, ends}
 use mathlib.Core.Bool.{not}
 use Rattle.text_load.proofs.read_lines.Goals as goal
 

@@ -1,8 +1,5 @@
-use Prim.Native.Nat.{◌-◌}
 use mathlib.Core.Path.{refl}
 use native.Mathlib.Omega.{arith}
-use borrow.Author.Rules.{rules}
-use lib.ListN.{length}
 use Rattle.text_load.proofs.WholeText.{other_names, no_last_byte, read_under, start_inside}
 use Rattle.text.specs.Bytes.{bytes}
 use Rattle.saved.specs.Row.{column_names}

@@ -1,15 +1,13 @@
 -- The two call each other: the measure is twice the places that are not marked, and one more in front of the loans.
-use Prim.Native.Nat.{ℕ, ◌+◌, ◌-◌, ◌*◌, ◌<◌}
+use Prim.Native.Nat.{ℕ, ◌<◌}
 use native.Mathlib.Omega.{arith}
 use mathlib.Core.Path.{sym, ap, ◌∙◌}
-use borrow.Author.Rules.{rules}
 use Rattle.tables.specs.Lookup.{place_of}
 use Rattle.image.specs.Image.{decode}
 use Rattle.text_marks.specs.Marks.{marked_in, with_mark, unmarked}
 use Rattle.text_loans.specs.Walk.{name_in}
-use Rattle.text_loans.proofs.Loans.{last}
 use Rattle.text_loans.proofs.Steps.{already, line_and_loans}
-use Rattle.text_loans.proofs.Going.{Going, going_none, going_fewer, going_end, going_rises, going_given}
+use Rattle.text_loans.proofs.Going.{going_none, going_fewer, going_end, going_rises, going_given}
 use Rattle.text_loans.proofs.Going.{going_lending, going_fits, going_more, going_past, less, line_fits, loans_fit}
 use Rattle.text_loans.proofs.+put_loans_put_ticket.Goals as goal
 

@@ -1,5 +1,4 @@
 use mathlib.Core.Path.{sym, ap, ◌∙◌}
-use borrow.Author.Rules.{rules}
 use Rattle.lists.specs.Lists.{first_index}
 use Rattle.tables.specs.Lookup.{is_named}
 use Rattle.image_read.specs.Places.{entries_in}

@@ -1,6 +1,4 @@
 use mathlib.Core.Path.{sym, ap, ◌∙◌}
-use borrow.Author.Rules.{rules}
-use borrow.Author.Tests.{not-true, not-false}
 use Rattle.tables.specs.declared.Ticket.{Ticket}
 use Rattle.tables.specs.Lookup.{place_of}
 use Rattle.image.specs.Image.{decode}

@@ -3,7 +3,6 @@ use native.Mathlib.Omega.{arith}
 use mathlib.Core.Path.{sym, subst}
 use mathlib.Core.List.{List}
 use lib.ListN.{length}
-use borrow.Author.Rules.{rules}
 use Rattle.text.specs.Appending.{highest_count}
 use Rattle.text.proofs.Appending.{append_as}
 use Rattle.text_loans.proofs.Places.{row_values}

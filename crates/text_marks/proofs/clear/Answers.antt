@@ -1,9 +1,8 @@
 -- After i turns the first i numbers are 0, the rest as they were.
-use Prim.Native.Nat.{◌-◌, ◌≤◌}
 use native.Mathlib.Omega.{arith}
-use mathlib.Core.Path.{◌≡◌, refl, ◌∙◌}
-use lib.ListN.{length, replicate, length-set}
-use Rattle.lists.proofs.Front.{front, front_none, fill_more, fill_end}
+use mathlib.Core.Path.{refl, ◌∙◌}
+use lib.ListN.{length, length-set}
+use Rattle.lists.proofs.Front.{front_none, fill_more, fill_end}
 use Rattle.text_marks.proofs.clear.Goals as goal
 
 pub loop-i-init : goal.loop-i-init

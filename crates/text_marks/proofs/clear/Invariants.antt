@@ -1,9 +1,8 @@
 -- After i turns the first i numbers are 0, the rest as they were.
 use Prim.Native.Nat.{◌-◌, ◌≤◌}
-use native.Mathlib.Omega.{arith}
-use mathlib.Core.Path.{◌≡◌, refl, ◌∙◌}
-use lib.ListN.{length, replicate, length-set}
-use Rattle.lists.proofs.Front.{front, front_none, fill_more, fill_end}
+use mathlib.Core.Path.{◌≡◌}
+use lib.ListN.{length, replicate}
+use Rattle.lists.proofs.Front.{front}
 use Rattle.text_marks.proofs.clear.Given as goal
 
 abbrev pub invariant-loop-i : goal.invariant-loop-i

@@ -1,6 +1,5 @@
 use Prim.Native.Nat.{◌/◌, ◌%◌}
 use lib.ListN.{get_or}
-use borrow.Author.Rules.{rules}
 use Rattle.text_marks.specs.Marks.{marked_in}
 use Rattle.text_marks.proofs.Masks.{mask_tells}
 use Rattle.text_marks.proofs.is_marked.Goals as goal

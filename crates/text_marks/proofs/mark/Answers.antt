@@ -1,5 +1,4 @@
 use native.Mathlib.Omega.{arith}
-use borrow.Author.Rules.{rules}
 use Rattle.text_marks.proofs.Masks.{mark_set}
 use Rattle.text_marks.proofs.mark.Goals as goal
 

@@ -3,7 +3,6 @@ use native.Mathlib.Omega.{arith}
 use native.Mathlib.Nat.{one-mul}
 use mathlib.Core.Path.{◌∙◌}
 use lib.Pow.{shl_exact}
-use borrow.Author.Rules.{rules}
 use Rattle.text_marks.proofs.mask.Goals as goal
 
 -- a bit below 8 is not shifted out

@@ -1,13 +1,10 @@
 -- The first i entries are noted.
-use Prim.Native.Nat.{◌-◌}
 use native.Mathlib.Omega.{arith}
 use mathlib.Core.Path.{ap, ◌∙◌}
-use borrow.Author.Rules.{rules}
-use lib.ListN.{length}
 use Rattle.tables.specs.declared.Entry.{Entry}
 use Rattle.tables.specs.Lookup.{place_of}
 use Rattle.image.specs.Image.{decode}
-use Rattle.text_notes.proofs.Noting.{place, NotesTo, is_live_lem, not_live, notes_none, notes_skip, place_low_lem, notes_more, notes_end}
+use Rattle.text_notes.proofs.Noting.{is_live_lem, not_live, notes_none, notes_skip, place_low_lem, notes_more, notes_end}
 use Rattle.text_notes.proofs.note_entries.Goals as goal
 
 pub loop-i-init : goal.loop-i-init

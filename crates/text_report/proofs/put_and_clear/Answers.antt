@@ -1,7 +1,6 @@
 use Prim.Native.Nat.{ℕ}
 use mathlib.Core.Path.{ap, ◌∙◌}
 use lib.ListN.{length, length-replicate}
-use borrow.Author.Rules.{rules}
 use Rattle.text_marks.specs.Marks.{mark_bytes}
 use Rattle.text_report.proofs.LentReport.{clear_scratch}
 use Rattle.text_report.proofs.put_and_clear.Goals as goal

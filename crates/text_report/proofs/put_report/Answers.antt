@@ -1,5 +1,4 @@
 -- The names, the taken grants with their loans, the last line.
-use borrow.Author.Rules.{rules}
 use Rattle.text.specs.Bytes.{bytes}
 use Rattle.report.specs.Report.{report_names}
 use Rattle.text_report.proofs.WholeReport.{start, last_fits, put_whole}

@@ -2,8 +2,6 @@
 use Prim.Native.Nat.{ℕ}
 use mathlib.Core.Path.{sym, ap, ◌∙◌}
 use lib.ListN.{length, replicate}
-use borrow.Author.Rules.{rules}
-use borrow.Author.Tests.{not-true, not-false}
 use Rattle.lending.specs.Report.{report_buffers}
 use Rattle.text_report.proofs.LentReport.{tables_bad, tables_ok_lem, tested, clear_scratch, other_tables, bad_tables, other_scratch, too_short, whole}
 use mathlib.Core.Bool.{not}

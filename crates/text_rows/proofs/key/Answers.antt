@@ -1,4 +1,3 @@
-use Prim.Native.Nat.{◌-◌}
 use borrow.Author.Rules.{rules}
 use Rattle.saved.specs.Row.{key}
 use Rattle.saved.proofs.RowLaws.{ranges}

@@ -1,4 +1,3 @@
-use borrow.Author.Rules.{rules}
 use Rattle.saved.specs.Row.{own_ok}
 use Rattle.text_rows.proofs.own_ok.Goals as goal
 

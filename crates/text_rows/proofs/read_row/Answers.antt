@@ -1,8 +1,5 @@
 use mathlib.Core.Path.{sym, ◌∙◌}
-use borrow.Author.Tests.{not-true, not-false}
 use Rattle.text_rows.proofs.RowReading.{no_values, formed}
-use Prim.Native.Nat.{◌-◌}
-use borrow.Author.Rules.{rules}
 use Rattle.text_rows.proofs.read_row.Goals as goal
 
 pub returns-then-not-formed : goal.returns-then-not-formed

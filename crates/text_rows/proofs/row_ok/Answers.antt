@@ -1,8 +1,6 @@
 use Rattle.saved.specs.Row.{row_ok}
 use mathlib.Core.Path.{sym, ◌∙◌}
-use borrow.Author.Tests.{le-leb, lt-leb, not-true, not-false}
-use Prim.Native.Nat.{◌-◌}
-use borrow.Author.Rules.{rules}
+use borrow.Author.Tests.{le-leb, lt-leb}
 use Rattle.text_rows.proofs.row_ok.Goals as goal
 
 pub returns-then-r-gt5 : goal.returns-then-r-gt5

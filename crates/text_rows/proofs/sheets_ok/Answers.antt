@@ -1,6 +1,4 @@
 use mathlib.Core.Path.{sym, ◌∙◌}
-use borrow.Author.Tests.{not-true, not-false}
-use borrow.Author.Rules.{rules}
 use Rattle.saved.specs.Row.{sheets_ok}
 use Rattle.text_rows.proofs.sheets_ok.Goals as goal
 

@@ -1,6 +1,5 @@
 -- The names, then the lines.
 use native.Mathlib.Omega.{arith}
-use borrow.Author.Rules.{rules}
 use Rattle.text.specs.Bytes.{bytes}
 use Rattle.saved.specs.Row.{column_names}
 use Rattle.text_save.proofs.WholeText.{lines_room, put_whole}

@@ -1,5 +1,4 @@
 -- Each return is one case of the tests before it; the last one has written the whole text.
-use borrow.Author.Rules.{rules}
 use Rattle.lists.proofs.Tests.{passed, failed}
 use Rattle.lending.specs.Saved.{save_buffers}
 use Rattle.lending.proofs.Refusals.{tables_told}

@@ -1,5 +1,4 @@
 -- The line's five values are appended.
-use borrow.Author.Rules.{rules}
 use Rattle.trace_texts.specs.Line.{answer_line}
 use Rattle.text_trace.proofs.append_answer.Goals as goal
 

@@ -1,6 +1,5 @@
 -- The line of another form is the answer with the result 15.
 use mathlib.Core.Path.{sym, ap, subst}
-use borrow.Author.Rules.{rules}
 use Rattle.machine.specs.declared.Answer.{Answer}
 use Rattle.text.specs.Appending.{Countable}
 use Rattle.text.proofs.Appending.{append_as}

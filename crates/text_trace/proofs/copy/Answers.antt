@@ -1,9 +1,8 @@
 -- After i turns the first i bytes are those of `from`, the rest as they were.
-use Prim.Native.Nat.{◌-◌, ◌≤◌}
 use native.Mathlib.Omega.{arith}
-use mathlib.Core.Path.{◌≡◌, refl, ◌∙◌}
-use lib.ListN.{length, length-set}
-use Rattle.lists.proofs.Front.{front, front_none, front_more, front_end}
+use mathlib.Core.Path.{refl, ◌∙◌}
+use lib.ListN.{length-set}
+use Rattle.lists.proofs.Front.{front_none, front_more, front_end}
 use Rattle.text_trace.proofs.copy.Goals as goal
 
 pub loop-i-init : goal.loop-i-init

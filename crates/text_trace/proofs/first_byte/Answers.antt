@@ -1,6 +1,5 @@
 -- Each return is one case of the two tests.
 use mathlib.Core.Path.{◌∙◌}
-use borrow.Author.Rules.{rules}
 use borrow.Author.Tests.{eq-eqb, ne_eqb}
 use Rattle.lists.proofs.Tests.{and_false}
 use Rattle.text_trace.proofs.first_byte.Goals as goal

@@ -1,7 +1,5 @@
 -- Each return is one case: another form, another fill, or in form.
 use mathlib.Core.Path.{sym, ◌∙◌}
-use borrow.Author.Rules.{rules}
-use borrow.Author.Tests.{not-false}
 use Rattle.lists.proofs.Tests.{passed, failed}
 use Rattle.text_trace.proofs.LineReading.{no_values, other_fill, well_formed}
 use mathlib.Core.Bool.{not}

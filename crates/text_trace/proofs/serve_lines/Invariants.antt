@@ -1,12 +1,8 @@
 -- Before each line `Going` holds.
-use Prim.Native.Nat.{◌+◌, ◌-◌, ◌≤◌}
-use native.Mathlib.Omega.{arith}
-use mathlib.Core.Path.{sym, ◌∙◌}
+use Prim.Native.Nat.{◌+◌, ◌-◌}
 use lib.ListN.{length}
-use borrow.Author.Rules.{rules}
-use Rattle.image.proofs.RoundTrip.{image_whole}
 use Rattle.lending.specs.Trace.{dock_of}
-use Rattle.text_trace.proofs.TraceSteps.{Going, begins, ends, end_holds, line_inside, line_bound, next}
+use Rattle.text_trace.proofs.TraceSteps.{Going}
 use Rattle.text_trace.proofs.serve_lines.Given as goal
 
 abbrev pub invariant-loop-from : goal.invariant-loop-from

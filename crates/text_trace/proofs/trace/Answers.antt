@@ -2,8 +2,6 @@
 use Prim.Native.Nat.{ℕ}
 use mathlib.Core.Path.{sym, ◌∙◌}
 use lib.ListN.{length-replicate}
-use borrow.Author.Rules.{rules}
-use borrow.Author.Tests.{not-true, not-false}
 use Rattle.image.specs.Layout.{image_size}
 use Rattle.text.proofs.Appending.{write_tested, refuse_tested}
 use Rattle.text_trace.proofs.WholeTrace.{zeros_ready, from_zeros}

@@ -1,7 +1,5 @@
 -- Each return is one case of the tests before it; the last one has written the whole trace.
 use mathlib.Core.Path.{sym, ◌∙◌}
-use borrow.Author.Rules.{rules}
-use borrow.Author.Tests.{not-true, not-false}
 use Rattle.batch.proofs.Refusals.{tables_bad, tables_ok_lem}
 use Rattle.lending.specs.Trace.{trace_buffers}
 use Rattle.text_trace.proofs.LentTrace.{tested, other_tables, other_store, bad_tables, too_short, whole}

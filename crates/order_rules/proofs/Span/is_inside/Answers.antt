@@ -1,6 +1,5 @@
 use mathlib.Core.Path.{◌∙◌}
 use borrow.Author.Tests.{le-leb, lt-leb}
-use borrow.Author.Rules.{rules}
 use Rattle.tables.specs.Sheets.{inside}
 use Rattle.order_rules.proofs.Span.is_inside.Goals as goal
 

@@ -1,6 +1,5 @@
 -- The chart's answer is what `within` says, by Chart.
 use mathlib.Core.Path.{◌∙◌}
-use borrow.Author.Rules.{rules}
 use Rattle.rights.proofs.Chart.{charted_is_within}
 use Rattle.rights.proofs.Rights.contains.Goals as goal
 

@@ -1,6 +1,5 @@
 -- The number, then the name, then whether it is live.
 use mathlib.Core.Path.{sym, ◌∙◌}
-use borrow.Author.Rules.{rules}
 use Rattle.tables.proofs.EntryNamed.{other_number, other_name, same_name}
 use Rattle.tables.proofs.Entry.is_named.Goals as goal
 

@@ -2,8 +2,6 @@ use Prim.Native.Nat.{ℕ}
 use mathlib.Core.Path.{◌≡◌, sym, ◌∙◌}
 use mathlib.Core.Bool.{true}
 use lib.Dec.{eqb}
-use borrow.Author.Rules.{rules}
-use borrow.Author.Tests.{not-true, not-false}
 use Rattle.tables.specs.declared.Ticket.{Ticket}
 use Rattle.tables.specs.Lookup.{has_number}
 use Rattle.tables.specs.Kinds.{is_live}
