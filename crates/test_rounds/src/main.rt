@@ -16,14 +16,14 @@ use std::io;
 fn asked(program: u16, op: u16, ticket: u16, count: u16, rights: u16) -> Request {
     Request {
         pad: 0,
-        program: program,
-        op: op,
-        ticket: ticket,
+        program,
+        op,
+        ticket,
         topad: 0,
         toprogram: 0,
         first: 0,
-        count: count,
-        rights: rights,
+        count,
+        rights,
     }
 }
 
@@ -56,23 +56,22 @@ fn is_answer(a: Answer, res: u16, ticket: u16, recipient: u16) -> bool
     a.recipient == recipient
 }
 
-// Program 0 takes, which must give the next number, and gives back. Answers how many such rounds there were, at most one less than there
-// are numbers.
+// At most one less than there are numbers.
+const ROUNDS: u16 = 65534;
+
+// Program 0 takes, which must give the next number, and gives back. Answers how many such rounds there were.
 fn rounds(tables: &mut [u8; IMAGE], store: &mut [u8; STORE], sheet: &mut [u8; SHEET]) -> u16 {
-    let mut number: u16 = 0;
-    while number < 65534 {
-        let next = number + 1;
+    for next in 1..=ROUNDS {
         let taken = step::step(tables, store, sheet, take(0));
         if !is_answer(taken, 0, next, 0) {
-            return number;
+            return next - 1;
         }
         let returned = step::step(tables, store, sheet, give_back(0, next));
         if !is_answer(returned, 0, 0, 0) {
-            return number;
+            return next - 1;
         }
-        number = next;
     }
-    number
+    ROUNDS
 }
 
 // ---- what is written
@@ -109,7 +108,14 @@ fn last_number(
     sheet: &mut [u8; SHEET],
 ) -> io::Result<()> {
     ask(rt, tables, store, sheet, b"0 takes: ", take(0))?;
-    ask(rt, tables, store, sheet, b"0 passes to 1: ", pass(0, 65535, 1))
+    ask(
+        rt,
+        tables,
+        store,
+        sheet,
+        b"0 passes to 1: ",
+        pass(0, 65535, 1),
+    )
 }
 
 // A number that was given back is not given again.
@@ -119,7 +125,14 @@ fn none_again(
     store: &mut [u8; STORE],
     sheet: &mut [u8; SHEET],
 ) -> io::Result<()> {
-    ask(rt, tables, store, sheet, b"0 gives back: ", give_back(0, 65535))?;
+    ask(
+        rt,
+        tables,
+        store,
+        sheet,
+        b"0 gives back: ",
+        give_back(0, 65535),
+    )?;
     ask(rt, tables, store, sheet, b"0 takes: ", take(0))
 }
 
