@@ -3,69 +3,58 @@
 
 #![tactic(auto)]
 
-ghost use Rattle.std.specs.Prelude.{◌≡◌, length};
+ghost use Rattle.std.specs.Prelude.{◌≤◌, ◌≡◌, length, IfOk, IfSome};
 ghost use Rattle.text.specs.Bytes.{same_bytes};
 ghost use Rattle.trace_texts.specs.Trace.{trace_room, trace};
 
+use std::io::{self, Read};
+use std::rt::Files;
+use std::{env, fs};
 use text_trace::LONGEST;
 
 // ---- a file
 
-// What was read: a whole file of so many bytes, or not a whole one.
-#[derive(Clone, Copy)]
-enum Read {
-    Whole(usize),
-    Other,
+// Reads until the buffer is full or the file ends; a read that fails ends it too. Answers how many bytes were read.
+fn read_full(file: &mut impl Read, buffer: &mut [u8]) -> usize
+    ensures { result ≤ length buffer.new }
+{
+    let mut done = 0;
+    while done < buffer.len() {
+        let n = file.read(&mut buffer[done..]).unwrap_or(0);
+        if n == 0 {
+            break;
+        }
+        done += n;
+    }
+    done
 }
 
-// Is everything read? One more read answers 0 at the file's end, and less where it fails.
-fn ended(fd: i32) -> bool {
+// Is everything read? One more read answers 0 at the file's end, and fails where the file can't be read.
+fn ended(file: &mut impl Read) -> bool {
     let mut next = [0u8; 1];
-    libc::read(fd, &mut next) == 0
+    matches!(file.read(&mut next), Ok(0))
 }
 
-// Reads a file into the buffer. A file that is longer, or is not read to its end, is not whole.
-fn read_file(path: &[u8], buffer: &mut [u8]) -> Read {
-    let fd = os::open_read(path);
-    if fd < 0 {
-        return Read::Other;
-    }
-    let n = io::read_full(fd, buffer);
-    let whole = ended(fd);
-    libc::close(fd);
-    if !whole {
-        return Read::Other;
-    }
-    Read::Whole(n)
-}
-
-// Writes the name and its ending into the path; answers the length, or 0 where there is no room. No file has an empty path.
-fn put_path(path: &mut [u8], name: &[u8], ending: &[u8]) -> usize {
-    let n = text::put(path, name);
-    if n != name.len() {
-        return 0;
-    }
-    if path.len() < n {
-        return 0;
-    }
-    let m = text::put(&mut path[n..], ending);
-    if m != ending.len() {
-        return 0;
-    }
-    if path.len() - n < m {
-        return 0;
-    }
-    n + m
+// Reads a whole file into the buffer and answers its length. A file that is longer, or is not read to its end, is not whole.
+fn read_file(rt: &impl Files, path: &str, buffer: &mut [u8]) -> Option<usize>
+    ensures { IfSome result (λ n. n ≤ length buffer.new) }
+{
+    let mut file = fs::open(rt, path).ok()?;
+    let n = read_full(&mut file, buffer);
+    if ended(&mut file) { Some(n) } else { None }
 }
 
 // Reads the case's file with this ending into the buffer.
-fn read_part(name: &[u8], ending: &[u8], buffer: &mut [u8]) -> Read {
-    let mut path = io::buffer();
-    let n = put_path(&mut path, name, ending);
-    if path.len() < n {
-        return Read::Other;
-    }
-    read_file(&path[0..n], buffer)
+fn read_part(
+    rt: &(impl Files + Alloc),
+    name: &str,
+    ending: &str,
+    buffer: &mut [u8],
+) -> io::Result<Option<usize>>
+    ensures { IfOk result (λ part. IfSome part (λ n. n ≤ length buffer.new)) }
+{
+    let path = format!(in rt.alloc(); "{name}{ending}")?;
+    Ok(read_file(rt, &path, buffer))
 }
 
 // ---- a case
@@ -80,60 +69,49 @@ fn traces_to(input: &[u8], expected: &[u8], out: &mut [u8]) -> bool
 }
 
 // Does the case hold? The buffers are for its input, for the expected trace and for the trace.
-fn agrees(name: &[u8], input: &mut [u8], expected: &mut [u8], out: &mut [u8]) -> bool
+fn agrees(
+    rt: &(impl Files + Alloc),
+    name: &str,
+    input: &mut [u8],
+    expected: &mut [u8],
+    out: &mut [u8],
+) -> io::Result<bool>
     requires { length out.old ≡ trace_room }
 {
-    let Read::Whole(n) = read_part(name, b".in", input) else {
-        return false;
+    let Some(n) = read_part(rt, name, ".in", input)? else {
+        return Ok(false);
     };
-    let Read::Whole(m) = read_part(name, b".out", expected) else {
-        return false;
+    let Some(m) = read_part(rt, name, ".out", expected)? else {
+        return Ok(false);
     };
-    if input.len() < n {
-        return false;
-    }
-    if expected.len() < m {
-        return false;
-    }
-    traces_to(&input[0..n], &expected[0..m], out)
+    Ok(traces_to(&input[..n], &expected[..m], out))
 }
 
 // The trace refuses every input above 65,536 bytes in the same way, so no case needs one above 65,537.
-fn holds(name: &[u8]) -> bool {
-    if name.len() == 0 {
-        return false;
+fn holds(rt: &(impl Files + Alloc), name: &str) -> io::Result<bool> {
+    if name.is_empty() {
+        return Ok(false);
     }
     let mut input = [0u8; LONGEST + 1];
     let mut expected = text_trace::buffer();
     let mut out = text_trace::buffer();
-    agrees(name, &mut input, &mut expected, &mut out)
+    agrees(rt, name, &mut input, &mut expected, &mut out)
 }
 
 // ---- the program
 
 // The trace stored for the case `must-differ` is wrong in one number: a test that looks at nothing says ok there.
-fn say(ok: bool, name: &[u8]) {
+fn say(rt: &impl Print, ok: bool, name: &str) -> io::Result<()> {
     if ok {
-        io::write_all(1, b"ok: ");
+        println!(rt; "ok: {name}")
     } else {
-        io::write_all(1, b"differs: ");
+        println!(rt; "differs: {name}")
     }
-    io::write_all(1, name);
-    io::write_all(1, b"\n");
 }
 
-// Runs the case that an argument names. An argument that is too long for a path has no name here, and its case differs.
-fn run_case(i: usize) {
-    let mut name = io::buffer();
-    let n = os::arg(i, &mut name);
-    say(holds(&name[..n]), &name[..n]);
-}
-
-fn main() {
-    let count = os::arg_count();
-    let mut i: usize = 1;
-    while i < count {
-        run_case(i);
-        i = i + 1;
+fn main(rt: HostRuntime) -> io::Result<()> {
+    for name in env::args(&rt)?.skip(1) {
+        say(&rt, holds(&rt, &name)?, &name)?;
     }
+    Ok(())
 }

@@ -8,6 +8,7 @@ ghost use Rattle.std.specs.Prelude.{◌≡◌, ◌&&◌, eqb};
 use image::IMAGE;
 use machine::{Answer, Request};
 use op_sheets::{SHEET, STORE};
+use std::io;
 
 // ---- requests
 
@@ -15,14 +16,14 @@ use op_sheets::{SHEET, STORE};
 fn asked(program: u16, op: u16, ticket: u16, count: u16, rights: u16) -> Request {
     Request {
         pad: 0,
-        program: program,
-        op: op,
-        ticket: ticket,
+        program,
+        op,
+        ticket,
         topad: 0,
         toprogram: 0,
         first: 0,
-        count: count,
-        rights: rights,
+        count,
+        rights,
     }
 }
 
@@ -55,80 +56,106 @@ fn is_answer(a: Answer, res: u16, ticket: u16, recipient: u16) -> bool
     a.recipient == recipient
 }
 
-// Program 0 takes, which must give the next number, and gives back. Answers how many such rounds there were, at most one less than there
-// are numbers.
+// At most one less than there are numbers.
+const ROUNDS: u16 = 65534;
+
+// Program 0 takes, which must give the next number, and gives back. Answers how many such rounds there were.
 fn rounds(tables: &mut [u8; IMAGE], store: &mut [u8; STORE], sheet: &mut [u8; SHEET]) -> u16 {
-    let mut number: u16 = 0;
-    while number < 65534 {
-        let next = number + 1;
+    for next in 1..=ROUNDS {
         let taken = step::step(tables, store, sheet, take(0));
         if !is_answer(taken, 0, next, 0) {
-            return number;
+            return next - 1;
         }
         let returned = step::step(tables, store, sheet, give_back(0, next));
         if !is_answer(returned, 0, 0, 0) {
-            return number;
+            return next - 1;
         }
-        number = next;
     }
-    number
+    ROUNDS
 }
 
 // ---- what is written
 
 // A name and a line of values.
-fn show(name: &[u8], values: &[u16]) {
-    let mut line = io::buffer();
+fn show(rt: &impl Print, name: &[u8], values: &[u16]) -> io::Result<()> {
+    let mut line = [0u8; 4096];
     let n = text::put_values(&mut line, values);
-    if line.len() < n {
-        return;
-    }
-    io::write_all(1, name);
-    io::write_all(1, &line[0..n]);
+    rt.write_all(name)?;
+    rt.write_all(&line[..n])
 }
 
 // ---- the last round and what follows
 
 // Asks for one thing and writes the answer: result, ticket, recipient.
 fn ask(
+    rt: &impl Print,
     tables: &mut [u8; IMAGE],
     store: &mut [u8; STORE],
     sheet: &mut [u8; SHEET],
     name: &[u8],
     r: Request,
-) {
+) -> io::Result<()> {
     let a = step::step(tables, store, sheet, r);
     let values = [a.result, a.ticket, a.recipient];
-    show(name, &values);
+    show(rt, name, &values)
 }
 
 // Program 0 takes its last number and passes it: there is none left for the recall.
-fn last_number(tables: &mut [u8; IMAGE], store: &mut [u8; STORE], sheet: &mut [u8; SHEET]) {
-    ask(tables, store, sheet, b"0 takes: ", take(0));
-    ask(tables, store, sheet, b"0 passes to 1: ", pass(0, 65535, 1));
+fn last_number(
+    rt: &impl Print,
+    tables: &mut [u8; IMAGE],
+    store: &mut [u8; STORE],
+    sheet: &mut [u8; SHEET],
+) -> io::Result<()> {
+    ask(rt, tables, store, sheet, b"0 takes: ", take(0))?;
+    ask(
+        rt,
+        tables,
+        store,
+        sheet,
+        b"0 passes to 1: ",
+        pass(0, 65535, 1),
+    )
 }
 
 // A number that was given back is not given again.
-fn none_again(tables: &mut [u8; IMAGE], store: &mut [u8; STORE], sheet: &mut [u8; SHEET]) {
-    ask(tables, store, sheet, b"0 gives back: ", give_back(0, 65535));
-    ask(tables, store, sheet, b"0 takes: ", take(0));
+fn none_again(
+    rt: &impl Print,
+    tables: &mut [u8; IMAGE],
+    store: &mut [u8; STORE],
+    sheet: &mut [u8; SHEET],
+) -> io::Result<()> {
+    ask(
+        rt,
+        tables,
+        store,
+        sheet,
+        b"0 gives back: ",
+        give_back(0, 65535),
+    )?;
+    ask(rt, tables, store, sheet, b"0 takes: ", take(0))
 }
 
 // A pass to program 0 finds no number for it either; the other programs have all of theirs.
-fn of_another(tables: &mut [u8; IMAGE], store: &mut [u8; STORE], sheet: &mut [u8; SHEET]) {
-    ask(tables, store, sheet, b"1 takes: ", take(1));
-    ask(tables, store, sheet, b"1 passes to 0: ", pass(1, 1, 0));
-    ask(tables, store, sheet, b"1 passes to 2: ", pass(1, 1, 2));
+fn of_another(
+    rt: &impl Print,
+    tables: &mut [u8; IMAGE],
+    store: &mut [u8; STORE],
+    sheet: &mut [u8; SHEET],
+) -> io::Result<()> {
+    ask(rt, tables, store, sheet, b"1 takes: ", take(1))?;
+    ask(rt, tables, store, sheet, b"1 passes to 0: ", pass(1, 1, 0))?;
+    ask(rt, tables, store, sheet, b"1 passes to 2: ", pass(1, 1, 2))
 }
 
 // The emptied dock is zeros.
-fn main() {
+fn main(rt: HostRuntime) -> io::Result<()> {
     let mut tables = [0u8; IMAGE];
     let mut store = [0u8; STORE];
     let mut sheet = [0u8; SHEET];
     let count = [rounds(&mut tables, &mut store, &mut sheet)];
-    show(b"rounds: ", &count);
-    last_number(&mut tables, &mut store, &mut sheet);
-    none_again(&mut tables, &mut store, &mut sheet);
-    of_another(&mut tables, &mut store, &mut sheet);
+    show(&rt, b"rounds: ", &count)?;
+    last_number(&rt, &mut tables, &mut store, &mut sheet)?;
+    none_again(&rt, &mut tables, &mut store, &mut sheet)?;
+    of_another(&rt, &mut tables, &mut store, &mut sheet)
 }

@@ -5,7 +5,24 @@
 ghost use Rattle.std.specs.Prelude.{◌≤◌, ◌≡◌, length, take};
 ghost use Rattle.trace_texts.specs.Trace.{trace_room, trace};
 
+use std::io::Read;
+use std::process::ExitCode;
 use text_trace::LONGEST;
+
+// Reads until the buffer is full or the input ends; a read that fails ends it too. Answers how many bytes were read.
+fn read_full(input: &mut impl Read, buffer: &mut [u8]) -> usize
+    ensures { result ≤ length buffer.new }
+{
+    let mut done = 0;
+    while done < buffer.len() {
+        let n = input.read(&mut buffer[done..]).unwrap_or(0);
+        if n == 0 {
+            break;
+        }
+        done += n;
+    }
+    done
+}
 
 // The trace in a buffer that every trace fits into: it is never refused.
 fn whole_trace(input: &[u8], out: &mut [u8]) -> usize
@@ -16,14 +33,16 @@ fn whole_trace(input: &[u8], out: &mut [u8]) -> usize
     text_trace::trace(input, out)
 }
 
-// One byte past the longest input is enough to know that it is too long. A trace that could not be written whole is said to be so: a
-// program has no exit status to tell it by, and no contract speaks of what C writes.
-fn main() {
+// One byte past the longest input is enough to know that it is too long. A trace that could not be written whole is said to be so: no
+// contract speaks of what the system writes.
+fn main(rt: HostRuntime) -> ExitCode {
     let mut input = [0u8; LONGEST + 1];
     let mut out = text_trace::buffer();
-    let read = io::read_full(0, &mut input);
+    let read = read_full(&mut rt.stdin(), &mut input);
     let written = whole_trace(&input[..read], &mut out);
-    if !io::write_all(1, &out[..written]) {
-        io::write_all(2, b"trace: standard output can't be written\n");
+    if rt.write_all(&out[..written]).is_err() {
+        let _ = rt.eprintln("trace: standard output can't be written");
+        return ExitCode::FAILURE;
     }
+    ExitCode::SUCCESS
 }
