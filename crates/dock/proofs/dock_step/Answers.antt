@@ -1,12 +1,10 @@
 -- The lengths of request and answer, then 13 and 14, then the request is served and its answer written.
 use native.Mathlib.Omega.{arith}
 use mathlib.Core.Path.{sym, ◌∙◌}
-use borrow.Author.Rules.{rules}
 use Rattle.lending.specs.Batch.{buffers_of}
 use Rattle.lending.proofs.Refusals.{tables_image, tables_order, not_refused}
 use Rattle.dock.proofs.OneRequest.{other_request, other_answer, before_it, served}
 use Rattle.dock.proofs.dock_step.Goals as goal
-
 
 pub returns-then-request-ne-REQUEST : goal.returns-then-request-ne-REQUEST
 returns-then-request-ne-REQUEST c =

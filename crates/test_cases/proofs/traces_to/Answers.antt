@@ -4,7 +4,6 @@ use mathlib.Core.Path.{◌≡◌, sym, ap, ◌∙◌}
 use mathlib.Core.List.{List}
 use lib.ListN.{length}
 use lib.Seq.{length-take-le}
-use borrow.Author.Rules.{rules}
 use Rattle.text.specs.Bytes.{same_bytes}
 use Rattle.text.specs.Writing.{Writes}
 use Rattle.text.proofs.WritingLaws.{written_within}
