@@ -1,9 +1,5 @@
-use Prim.Native.Nat.{ℕ, ◌≤◌}
-use native.Mathlib.Omega.{arith}
-use mathlib.Core.Path.{◌≡◌, sym, ap, ◌∙◌}
-use mathlib.Core.List.{List}
-use lib.ListN.{length}
-use lib.Seq.{length-take-le}
+use Rattle.std.proofs.Common.{ℕ, ◌≤◌, ◌≡◌, List, length, arith, sym, ap, ◌∙◌}
+use Rattle.std.proofs.lemmas.List.{length-take-le}
 use Rattle.text.specs.Bytes.{same_bytes}
 use Rattle.text.specs.Writing.{Writes}
 use Rattle.text.proofs.WritingLaws.{written_within}

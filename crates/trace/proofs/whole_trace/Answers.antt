@@ -1,5 +1,5 @@
 -- An output of this length takes every trace, so the trace is written whole.
-use native.Mathlib.Omega.{arith}
+use Rattle.std.proofs.Common.{arith}
 use Rattle.text.proofs.WritingLaws.{written_within}
 use Rattle.trace_texts.specs.Trace.{trace}
 use Rattle.text_trace.proofs.WholeTrace.{whole_in_buffer}
