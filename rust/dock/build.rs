@@ -12,7 +12,7 @@ fn main() {
     let library = folder.join("libdock.a");
     println!("cargo:rerun-if-changed={}", library.display());
     if !library.is_file() {
-        eprintln!("{} is not there: run `rt staticlib dock` first", library.display());
+        eprintln!("{} is not there: run `sh package/prove staticlib dock` first", library.display());
         exit(1);
     }
     println!("cargo:rustc-link-search=native={}", folder.display());
