@@ -1,7 +1,7 @@
 /*
  * The dock's ink store and the tickets to it: the C boundary of the proved library.
  *
- * Build it with `rt staticlib dock` and link target/staticlib/libdock.a; where it is installed by
+ * Build it with `make` and link target/staticlib/libdock.a; where it is installed by
  * `make install`, the flags come from pkg-config. "Document 01" is the paper of requirements that the
  * numbers and the words below come from.
  *
