@@ -5,7 +5,7 @@ use mathlib.Core.Path.{◌≡◌, refl, sym, ap, ◌∙◌}
 use mathlib.Core.List.{List}
 use lib.ListN.{length, get_or, drop}
 use lib.Seq.{drop-drop}
-use Rattle.lists.proofs.PartLaws.{length_tabulate, get_d_tabulate}
+use Rattle.lists.proofs.PartLaws.{length_tabulate, get_or_tabulate}
 use Rattle.tables.specs.declared.{Program.Program, Pad.Pad}
 use Rattle.tables.specs.Names.{free, no_program, no_pad}
 use Rattle.tables.specs.Lookup.{Sized, pad_at, program_at, last_of}
@@ -20,18 +20,18 @@ use Rattle.image_places.specs.Places.{placed, Flattened}
 module _ (bytes : List ℕ) where
   pad_read : (a : ℕ) → a < 4 → pad_at (decode bytes) a ≡ read_pad (drop (pad_size * a) bytes)
   unfolding decode
-  pad_read a h = get_d_tabulate 4 (λ i. read_pad (drop (pad_size * i) bytes)) a no_pad h
+  pad_read a h = get_or_tabulate 4 (λ i. read_pad (drop (pad_size * i) bytes)) a no_pad h
 
   program_in : (a b : ℕ) → b < 8 → get_or (read_pad (drop (pad_size * a) bytes)).programs b no_program ≡ read_program (drop (program_size * b) (drop (pad_size * a) bytes))
   unfolding read_pad
-  program_in a b h = get_d_tabulate 8 (λ i. read_program (drop (program_size * i) (drop (pad_size * a) bytes))) b no_program h
+  program_in a b h = get_or_tabulate 8 (λ i. read_program (drop (program_size * i) (drop (pad_size * a) bytes))) b no_program h
 
   program_read : (a b : ℕ) → a < 4 → b < 8 → program_at (decode bytes) a b ≡ read_program (drop (program_size * b) (drop (pad_size * a) bytes))
   program_read a b p q = ap (λ (x : Pad). get_or x.programs b no_program) (pad_read a p) ∙ program_in a b q
 
   ticket_in_lem : (part : List ℕ) (i : ℕ) → i < 8 → get_or (read_program part).tickets i free ≡ read_ticket (drop (ticket_size * i) part)
   unfolding read_program
-  ticket_in_lem part i h = get_d_tabulate 8 (λ j. read_ticket (drop (ticket_size * j) part)) i free h
+  ticket_in_lem part i h = get_or_tabulate 8 (λ j. read_ticket (drop (ticket_size * j) part)) i free h
 
   last_in_lem : (part : List ℕ) → (read_program part).last ≡ number_at program_last_at part
   unfolding read_program

@@ -6,7 +6,7 @@ use mathlib.Core.Bool.{Bool, true, false}
 use mathlib.Core.List.{List, [], ◌∷◌, ◌++◌}
 use lib.ListN.{length, get_or}
 use Rattle.lists.proofs.Tests.{Case, pass, fail, case, cannot_pass}
-use Rattle.lists.proofs.PartLaws.{length_tabulate, get_d_tabulate}
+use Rattle.lists.proofs.PartLaws.{length_tabulate, get_or_tabulate}
 use Rattle.tables.specs.declared.{Name.Name, Ticket.Ticket, Tables.Tables}
 use Rattle.tables.specs.Kinds.{is_live}
 use Rattle.tables.specs.Names.{name_of, free}
@@ -37,7 +37,7 @@ module _ (t : Tables) (shape : Shape t) (tickets : List Ticket) (same : (p : ℕ
   number_at : (i : ℕ) → i < 8 → number i ≡ number_if test (placed t (8 * program + i))
   unfolding numbers_in
   number_at i h =
-      get_d_tabulate 8 (λ j. number_if test (get_or tickets (8 * program + j) free)) i 0 h ∙ ap (number_if test) (same (8 * program + i) (omega arith))
+      get_or_tabulate 8 (λ j. number_if test (get_or tickets (8 * program + j) free)) i 0 h ∙ ap (number_if test) (same (8 * program + i) (omega arith))
 
   -- ---- what stands at a place whose number is not 0
   pub record Stands (i : ℕ) : Type 0 where

@@ -5,7 +5,7 @@ use mathlib.Core.Path.{◌≡◌, sym, ap, subst, ◌∙◌}
 use mathlib.Core.List.{List, map}
 use lib.ListN.{length, get_or, take, drop, length-drop, length-map, get_or-map}
 use lib.Seq.{length-take-le, get_or-take, get_or-drop, ext_get_or}
-use Rattle.lists.proofs.PartLaws.{length_tabulate, get_d_tabulate}
+use Rattle.lists.proofs.PartLaws.{length_tabulate, get_or_tabulate}
 use Rattle.tables.specs.declared.Tables.{Tables}
 use Rattle.tables.specs.Names.{free}
 use Rattle.tables.specs.Lookup.{Sized, tickets_of}
@@ -32,13 +32,13 @@ module _ (t : Tables) (pad : ℕ) where
 
     number_there : get_or (numbers_of t pad) (8 * b + i) 0 ≡ number_of (ticket_at t pad b i)
     unfolding numbers_of
-    number_there = get_d_tabulate 64 (λ j. number_of (on_pad t pad j)) (8 * b + i) 0 (omega (arith, c, h)) ∙ ap number_of on_pad_lem
+    number_there = get_or_tabulate 64 (λ j. number_of (on_pad t pad j)) (8 * b + i) 0 (omega (arith, c, h)) ∙ ap number_of on_pad_lem
 
     pub up_there : (numbers : List ℕ) → get_or (ups_of t pad numbers) (8 * b + i) 0 ≡ up_of numbers b (ticket_at t pad b i)
     unfolding ups_of
     up_there numbers =
         let e : (8 * b + i) / 8 ≡ b = omega (arith, h) in
-        get_d_tabulate 64 (λ j. up_of numbers (j / 8) (on_pad t pad j)) (8 * b + i) 0 (omega (arith, c, h)) ∙ λ m. up_of numbers (e m) (on_pad_lem m)
+        get_or_tabulate 64 (λ j. up_of numbers (j / 8) (on_pad t pad j)) (8 * b + i) 0 (omega (arith, c, h)) ∙ λ m. up_of numbers (e m) (on_pad_lem m)
 
   pub row_at : Sized t → pad < 4 → (b : ℕ) → b < 8 → take 8 (drop (8 * b) (numbers_of t pad)) ≡ map number_of (tickets_of t pad b)
   unfolding number_of

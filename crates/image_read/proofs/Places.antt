@@ -3,7 +3,7 @@ use Prim.Native.Nat.{ℕ, ◌<◌}
 use mathlib.Core.Path.{◌≡◌, refl, ap, ◌∙◌}
 use mathlib.Core.List.{List}
 use lib.ListN.{length, get_or, drop}
-use Rattle.lists.proofs.PartLaws.{length_tabulate, get_d_tabulate}
+use Rattle.lists.proofs.PartLaws.{length_tabulate, get_or_tabulate}
 use Rattle.tables.specs.declared.Ticket.{Ticket}
 use Rattle.tables.specs.Names.{free, no_entry}
 use Rattle.image.specs.Numbers.{number_at}
@@ -26,7 +26,7 @@ module _ (bytes : List ℕ) where
 
   pub ticket_here : (place : ℕ) → place < 256 → get_or (tickets_in bytes) place free ≡ read_ticket (drop (ticket_start place) bytes)
   unfolding tickets_in
-  ticket_here place h = get_d_tabulate 256 (λ p. read_ticket (drop (ticket_start p) bytes)) place free h
+  ticket_here place h = get_or_tabulate 256 (λ p. read_ticket (drop (ticket_start p) bytes)) place free h
 
   -- its kind is that of the number in front
   pub kind_here : (place : ℕ) → place < 256 → (get_or (tickets_in bytes) place free).kind ≡ kind_of (number_at (ticket_start place) bytes)
@@ -35,11 +35,11 @@ module _ (bytes : List ℕ) where
 
   pub last_here : (program : ℕ) → program < 32 → get_or (lasts_in bytes) program 0 ≡ number_at (last_start program) bytes
   unfolding lasts_in
-  last_here program h = get_d_tabulate 32 (λ p. number_at (last_start p) bytes) program 0 h
+  last_here program h = get_or_tabulate 32 (λ p. number_at (last_start p) bytes) program 0 h
 
   pub entry_here : (place : ℕ) → place < 256 → get_or (entries_in bytes) place no_entry ≡ read_entry (drop (entry_start place) bytes)
   unfolding entries_in
-  entry_here place h = get_d_tabulate 256 (λ p. read_entry (drop (entry_start p) bytes)) place no_entry h
+  entry_here place h = get_or_tabulate 256 (λ p. read_entry (drop (entry_start p) bytes)) place no_entry h
 
   -- the entries are those of the tables
   pub entries_decoded : entries_in bytes ≡ (decode bytes).entries

@@ -1,5 +1,5 @@
 -- The group's own request, served from two alike states: the answers agree, an accepted read leaves the same bytes, and the states that are
--- left are alike. One lemma for each operation and for the drop on 12, then all of them by the refusal's number.
+-- left are alike. One lemma for each operation and for the drop on 12; all of them by the refusal's number: WholeStep.
 use Prim.Native.Nat.{ℕ, suc, ◌+◌, ◌*◌, ◌-◌, ◌≤◌}
 use native.Mathlib.Omega.{arith}
 use mathlib.Core.Path.{◌≡◌, refl, sym, ap, ◌∙◌, subst}
@@ -8,7 +8,6 @@ use mathlib.Core.Bool.{Bool, true, false, ◌||◌}
 use mathlib.Core.List.{List}
 use lib.Dec.{eqb}
 use lib.ListN.{length, replicate, length-replicate}
-use borrow.Author.Tests.{eqb-true, eqb-false}
 use Rattle.lists.specs.Tests.{between}
 use Rattle.lists.proofs.Tests.{Case, pass, fail, case}
 use Rattle.tables.specs.declared.{Name.Name, Tables.Tables}
@@ -16,26 +15,23 @@ use Rattle.tables.specs.Names.{eq_name}
 use Rattle.tables.specs.Lookup.{lookup, entry_of}
 use Rattle.tables.specs.Chains.{at_or_under, chain_head, at_or_below}
 use Rattle.machine.specs.declared.Request.{Request}
-use Rattle.machine.specs.State.{State, Outcome, answer_of, accepted, refused, with_tables, sheet_at, put_sheets, clear_sheets, asked_name, asked}
-use Rattle.machine.specs.Operation.{Operation, taking, passing, recalling, giving_back, reading, writing, operation_of, used_by, fields_ok}
+use Rattle.machine.specs.State.{State, Outcome, answer_of, accepted, with_tables, sheet_at, put_sheets, clear_sheets, asked_name, asked}
+use Rattle.machine.specs.Operation.{Operation, taking, passing, recalling, giving_back, reading, writing, used_by, fields_ok}
 use Rattle.machine.specs.Take.{after_take}
 use Rattle.machine.specs.Pass.{after_pass}
 use Rattle.machine.specs.Isolation.{owns}
 use Rattle.machine.specs.Recall.{lent_away, goes_with, recall_tables, after_recall}
 use Rattle.machine.specs.GiveBack.{give_back_tables, after_give_back}
 use Rattle.machine.specs.Access.{sheet_of, after_read, after_write}
-use Rattle.machine.specs.Step.{own_refusal, request_refusal, after_own, drop_head, outcome, serve}
+use Rattle.machine.specs.Step.{own_refusal, after_own, drop_head, serve}
 use Rattle.machine.specs.Sequence.{Group}
-use Rattle.machine.proofs.RefusalLaws.{own_decides, refusals_agree}
 use Rattle.preservation.specs.Rules.{Inside, EntryOk}
 use Rattle.preservation.specs.InOrder.{InOrder, DockOk}
 use Rattle.preservation.proofs.AfterChange.{removed}
 use Rattle.preservation.proofs.ChainSteps.{head_is_dock, within_entry}
-use Rattle.preservation.proofs.Results.{serve_result}
-use Rattle.preservation.proofs.Preconditions.{number_of, op_number, pass_fields, Past, past_request, late_0, late_12, may_take, may_pass, may_give_back, MayUse, may_use, Stale, stale_of}
+use Rattle.preservation.proofs.Preconditions.{number_of, pass_fields, may_take, may_pass, may_give_back, MayUse, may_use, Stale}
 use Rattle.preservation.proofs.Passing.{MayPass}
 use Rattle.preservation.proofs.Taking.{MayTake}
-use Rattle.preservation.proofs.StepKeepsOrder.{serve_keeps_dock}
 use Rattle.isolation.specs.Alike.{Mine, sheet_in, Alike}
 use Rattle.isolation.proofs.Sides.{dock_side}
 use Rattle.isolation.proofs.AlikeFacts.{lent_same, same_other, same_count, same_dock, under_same, below_same}
@@ -233,7 +229,7 @@ module _ (g : Group) (s u : State) (al : Alike g s u) (r : Request) (mine : g r.
     }
 
   -- ---- the drop on 12
-  drop_alike : Stale s.tables r → Stale u.tables r → DockOk (with_tables s (drop_head s.tables r)) → DockOk (with_tables u (drop_head u.tables r))
+  pub drop_alike : Stale s.tables r → Stale u.tables r → DockOk (with_tables s (drop_head s.tables r)) → DockOk (with_tables u (drop_head u.tables r))
       → Alike g (with_tables s (drop_head s.tables r)) (with_tables u (drop_head u.tables r))
   unfolding drop_head
   drop_alike l m =
@@ -250,7 +246,7 @@ module _ (g : Group) (s u : State) (al : Alike g s u) (r : Request) (mine : g r.
     recipient_inside : fields_ok (used_by passing) r ≡ true → r.op ≡ 2 → g r.topad r.toprogram ≡ true
     recipient_inside f o = inside o (pass_fields r f).0 (pass_fields r f).1
 
-    own_same : (o : Operation) → number_of o ≡ r.op → fields_ok (used_by o) r ≡ true
+    pub own_same : (o : Operation) → number_of o ≡ r.op → fields_ok (used_by o) r ≡ true
         → ((v : State) → (serve v r).answer.result ≡ own_refusal o v.tables r) → own_refusal o s.tables r ≡ own_refusal o u.tables r
     unfolding own_refusal number_of between
     own_same taking n f result =
@@ -262,12 +258,7 @@ module _ (g : Group) (s u : State) (al : Alike g s u) (r : Request) (mine : g r.
     own_same reading n f result = access_same g s u al r mine 1 refl
     own_same writing n f result = access_same g s u al r mine 2 refl
 
-    refusal_same : request_refusal s.tables r ≡ request_refusal u.tables r
-    refusal_same =
-        refusals_agree s.tables u.tables r
-        (λ p o f. own_same (operation_of r.op) (op_number r.op o) f (λ v. serve_result v r ∙ own_decides v.tables r p o f))
-
-    own_agreed : (o : Operation) → number_of o ≡ r.op → fields_ok (used_by o) r ≡ true → length s.sheet ≡ 64 → (r.op ≡ 6 → s.sheet ≡ u.sheet)
+    pub own_agreed : (o : Operation) → number_of o ≡ r.op → fields_ok (used_by o) r ≡ true → length s.sheet ≡ 64 → (r.op ≡ 6 → s.sheet ≡ u.sheet)
         → own_refusal o s.tables r ≡ 0 → own_refusal o u.tables r ≡ 0 → DockOk (after_own o s r).state → DockOk (after_own o u r).state
         → Agreed g r (after_own o s r) (after_own o u r)
     unfolding own_refusal after_own number_of
@@ -278,55 +269,3 @@ module _ (g : Group) (s u : State) (al : Alike g s u) (r : Request) (mine : g r.
     own_agreed giving_back n f buf same e e₂ = give_back_agreed (may_give_back s.tables r e) (may_give_back u.tables r e₂) (λ z. omega arith)
     own_agreed reading n f buf same e e₂ = λ dock dock₂. read_agreed (may_use s.tables r 1 e)
     own_agreed writing n f buf same e e₂ = λ dock dock₂. write_agreed (may_use s.tables r 2 e) buf (same (sym n)) (λ z. omega arith)
-
-    same_0 : {b : Bool} → eqb (request_refusal s.tables r) 0 ≡ b → eqb (request_refusal u.tables r) 0 ≡ b
-    same_0 e = ap (λ (n : ℕ). eqb n 0) (sym refusal_same) ∙ e
-
-    same_12 : {b : Bool} → eqb (request_refusal s.tables r) 12 ≡ b → eqb (request_refusal u.tables r) 12 ≡ b
-    same_12 e = ap (λ (n : ℕ). eqb n 12) (sym refusal_same) ∙ e
-
-    -- by the refusal's number: accepted, dropped, refused
-    accepted_agreed : eqb (request_refusal s.tables r) 0 ≡ true → length s.sheet ≡ 64 → (r.op ≡ 6 → s.sheet ≡ u.sheet)
-        → DockOk (serve s r).state → DockOk (serve u r).state → Agreed g r (serve s r) (serve u r)
-    unfolding serve outcome
-    accepted_agreed e buf same dock dock₂ =
-        let p : Past s.tables r 0 = past_request s.tables r 0 late_0 (eqb-true (request_refusal s.tables r) 0 e) in
-        let q : Past u.tables r 0 = past_request u.tables r 0 late_0 (eqb-true (request_refusal u.tables r) 0 (same_0 e)) in
-        rw (e, same_0 e) (own_agreed (operation_of r.op) p.number p.fields buf same p.own q.own (rw e at dock) (rw (same_0 e) at dock₂))
-
-    dropped_agreed : eqb (request_refusal s.tables r) 0 ≡ false → eqb (request_refusal s.tables r) 12 ≡ true
-        → DockOk (serve s r).state → DockOk (serve u r).state → Agreed g r (serve s r) (serve u r)
-    unfolding serve outcome refused
-    dropped_agreed f e dock dock₂ =
-        let p = stale_of s.tables r (past_request s.tables r 12 late_12 (eqb-true (request_refusal s.tables r) 12 e)) in
-        let q = stale_of u.tables r (past_request u.tables r 12 late_12 (eqb-true (request_refusal u.tables r) 12 (same_12 e))) in
-        rw (f, same_0 f, e, same_12 e)
-        (record {
-          answer = refl;
-          sheet = λ z w. absurd (omega (arith, w));
-          alike = drop_alike p q (rw (f, e) at dock) (rw (same_0 f, same_12 e) at dock₂);
-        })
-
-    refused_agreed : eqb (request_refusal s.tables r) 0 ≡ false → eqb (request_refusal s.tables r) 12 ≡ false → Agreed g r (serve s r) (serve u r)
-    unfolding serve outcome refused
-    refused_agreed f e =
-        rw (f, same_0 f, e, same_12 e)
-        (record {
-          answer = ap (λ (n : ℕ). answer_of n 0 0) refusal_same;
-          sheet = λ z w. absurd (eqb-false (request_refusal s.tables r) 0 f w);
-          alike = al;
-        })
-
-    pub group_step : length s.sheet ≡ 64 → length u.sheet ≡ 64 → (r.op ≡ 6 → s.sheet ≡ u.sheet) → Agreed g r (serve s r) (serve u r)
-    group_step buf buf₂ same = go (case (eqb (request_refusal s.tables r) 0)) (case (eqb (request_refusal s.tables r) 12))
-      where
-        dock : DockOk (serve s r).state
-        dock = serve_keeps_dock s r al.here.dock buf
-
-        dock₂ : DockOk (serve u r).state
-        dock₂ = serve_keeps_dock u r al.there.dock buf₂
-
-        go : Case (eqb (request_refusal s.tables r) 0) → Case (eqb (request_refusal s.tables r) 12) → Agreed g r (serve s r) (serve u r)
-        go (pass e) _ = accepted_agreed e buf same dock dock₂
-        go (fail f) (pass e) = dropped_agreed f e dock dock₂
-        go (fail f) (fail e) = refused_agreed f e

@@ -22,7 +22,8 @@ use Rattle.isolation.specs.Alike.{Parted, Alike}
 use Rattle.isolation.proofs.Edge.{is_possible, is_in_group, on_one_side}
 use Rattle.isolation.proofs.AlikeFacts.{alike_sym, quiet_left}
 use Rattle.isolation.proofs.OutsiderIsQuiet.{outsider_is_quiet}
-use Rattle.isolation.proofs.GroupStep.{Agreed, alike_sheets, group_step}
+use Rattle.isolation.proofs.GroupStep.{Agreed, alike_sheets}
+use Rattle.isolation.proofs.WholeStep.{group_step}
 use Rattle.isolation.proofs.TwoSequences.{served, seen, two_sequences, Claim}
 
 -- ---- the three steps that the induction asks for

@@ -8,6 +8,7 @@ pub mod SameChange
 pub mod SameTake
 pub mod SamePass
 pub mod GroupStep
+pub mod WholeStep
 pub mod TwoSequences
 pub mod Isolation
 pub mod EachPremiseCounts

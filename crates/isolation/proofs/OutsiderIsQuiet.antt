@@ -18,7 +18,7 @@ use Rattle.tables.specs.Names.{name_of, eq_name, same_program, free, no_entry}
 use Rattle.tables.specs.Lookup.{program_at, tickets_of, has_number, ticket_in, lookup, entry_of}
 use Rattle.tables.specs.Chains.{at_or_under, chain_head, at_or_below}
 use Rattle.tables.specs.Change.{drop_ticket, drop_in_program, drop_tickets, drop_entries}
-use Rattle.tables.proofs.NameLaws.{eqName-false, program_ne}
+use Rattle.tables.proofs.NameLaws.{eq_name_false, program_ne}
 use Rattle.tables.proofs.Keys.{ticket_keys, ticket_laws}
 use Rattle.tables.proofs.ByPlace.{ticket_at}
 use Rattle.machine.specs.declared.Request.{Request}
@@ -128,7 +128,7 @@ module _ (g : Group) (s : State) (parted : Parted g s) where
     not_asker p q h = program_ne p q r.pad r.program (λ a b. no_true (sym out ∙ ap (λ (m : ℕ). g m r.program) (sym a) ∙ ap (g p) (sym b) ∙ h))
 
     not_me : (n : Name) → owns g n ≡ true → eq_name n (asked_name r) ≡ false
-    not_me n h = eqName-false n (asked_name r) (λ e. no_true (sym out ∙ ap (owns g) (sym e) ∙ h))
+    not_me n h = eq_name_false n (asked_name r) (λ e. no_true (sym out ∙ ap (owns g) (sym e) ∙ h))
 
     quiet_take : MayTake t r → DockOk (after_take s r).state → Quiet g s (after_take s r).state
     unfolding after_take accepted clear_sheets

@@ -14,7 +14,7 @@ use Rattle.tables.specs.declared.{Name.Name, Ticket.Ticket, Program.Program, Tab
 use Rattle.tables.specs.declared.Kind.TheVariants.{Received, Child}
 use Rattle.tables.specs.Names.{eq_name, same_program, grant_ticket, head_ticket, recall_ticket, entry_for}
 use Rattle.tables.specs.Lookup.{tickets_of, last_of, lookup, entry_of}
-use Rattle.tables.proofs.NameLaws.{name_eq, eqName-true, eqName-ne, program_same}
+use Rattle.tables.proofs.NameLaws.{name_eq, eq_name_true, eq_name_ne, program_same}
 use Rattle.machine.specs.declared.Request.{Request}
 use Rattle.machine.specs.State.{State, with_tables, sheet_at, asked_name}
 use Rattle.machine.specs.Pass.{pass_tables}
@@ -107,20 +107,20 @@ module _ (g : Group) (s u : State) (al : Alike g s u) (r : Request) (mine : g r.
     offset_of : ((entry_of t₁ k.dock).live ≡ true → k.first + (entry_of t₂ k.dock).first ≡ k₂.first + (entry_of t₁ k.dock).first)
         → (n : Name) → owns g n ≡ true → is_grant (lookup t₁ n).kind ≡ true → (entry_of t₁ (lookup t₁ n).dock).live ≡ true → Case (eq_name n x) → Case (eq_name n y)
         → (lookup t₁ n).first + (entry_of t₂ (lookup t₁ n).dock).first ≡ (lookup t₂ n).first + (entry_of t₁ (lookup t₁ n).dock).first
-    offset_of new n h c l (pass e) _ = let z = ap (lookup t₁) (eqName-true n x e) ∙ effect.recall in no_true (rw z at c)
+    offset_of new n h c l (pass e) _ = let z = ap (lookup t₁) (eq_name_true n x e) ∙ effect.recall in no_true (rw z at c)
     offset_of new n h c l (fail d) (pass e) =
-        let q : n ≡ y = eqName-true n y e in
+        let q : n ≡ y = eq_name_true n y e in
         let z : lookup t₁ n ≡ k = ap (lookup t₁) q ∙ effect.grant in
         let w : lookup t₂ n ≡ k₂ = ap (lookup t₂) (q ∙ same_y) ∙ effect₂.grant in
         rw (z, w) (new (rw z at l))
     offset_of new n h c l (fail d) (fail e) =
-        let z = effect.tickets n (eqName-ne n x d) (eqName-ne n y e) in
+        let z = effect.tickets n (eq_name_ne n x d) (eq_name_ne n y e) in
         let c₀ : is_grant (lookup s.tables n).kind ≡ true = rw z at c in
         let l₀ : (entry_of t₁ (lookup s.tables n).dock).live ≡ true = rw z at l in
         let v : (lookup s.tables n).dock ≡ y → ⊥
         = not_past s.tables ok y refl (lookup s.tables n).dock (dock_live s.tables ok n c₀) in
         let i = effect.entries (lookup s.tables n).dock v in
-        rw (z, tickets₂ n (eqName-ne n x d) (eqName-ne n y e), i, entries₂ (lookup s.tables n).dock v) (al.offset n h c₀ (rw i at l₀))
+        rw (z, tickets₂ n (eq_name_ne n x d) (eq_name_ne n y e), i, entries₂ (lookup s.tables n).dock v) (al.offset n h c₀ (rw i at l₀))
 
   -- the asked grant's offset in the entry of its dock name
   moved : (entry_of s.tables (lookup s.tables a).dock).live ≡ true
@@ -229,13 +229,13 @@ module _ (g : Group) (s u : State) (al : Alike g s u) (r : Request) (mine : g r.
 
     part_of : (n : Name) → owns g n ≡ true → (entry_of t₁ n).live ≡ true → Case (eq_name n y) → PartOf n
     part_of n h l (pass e) =
-        let q : n ≡ y = eqName-true n y e in
+        let q : n ≡ y = eq_name_true n y e in
         let f : entry_of t₁ n ≡ new_entry s.tables r = ap (entry_of t₁) q ∙ entry_y in
         let f₂ : entry_of t₂ n ≡ new_entry u.tables r = ap (entry_of t₂) q ∙ entry-y₂ in
         record { name = d; own = own_dock; live = known; by = shift; first = rw f shift₁; first₂ = rw f₂ shift₂; count = rw f shift_fits }
     part_of n h l (fail e) =
-        let f = far.entries n (eqName-ne n y e) in
-        let f₂ = others₂ n (eqName-ne n y e) in
+        let f = far.entries n (eq_name_ne n y e) in
+        let f₂ = others₂ n (eq_name_ne n y e) in
         record { name = n; own = h; live = rw f at l; by = 0; first = rw f (omega arith); first₂ = rw f₂ (omega arith); count = rw f (omega arith) }
 
     part : {n : Name} {i : ℕ} → Mine g t₁ n i → PartOf n
@@ -259,10 +259,10 @@ module _ (g : Group) (s u : State) (al : Alike g s u) (r : Request) (mine : g r.
 
     entries_of : (n : Name) → owns g n ≡ true → Case (eq_name n y) → blur_entry (entry_of t₁ n) ≡ blur_entry (entry_of t₂ n)
     entries_of n h (pass e) =
-        let q : n ≡ y = eqName-true n y e in
+        let q : n ≡ y = eq_name_true n y e in
         ap blur_entry (ap (entry_of t₁) q ∙ entry_y) ∙ (λ i. entry_for (same_y i) (dock_same i) 0 r.count (rights_of r.rights))
         ∙ ap blur_entry (sym (ap (entry_of t₂) q ∙ entry-y₂))
-    entries_of n h (fail e) = let q = eqName-ne n y e in ap blur_entry (far.entries n q) ∙ al.entries n h ∙ ap blur_entry (sym (others₂ n q))
+    entries_of n h (fail e) = let q = eq_name_ne n y e in ap blur_entry (far.entries n q) ∙ al.entries n h ∙ ap blur_entry (sym (others₂ n q))
 
     alike_far : DockOk (with_tables s t₁) → DockOk (with_tables u t₂) → Alike g (with_tables s t₁) (with_tables u t₂)
     unfolding with_tables

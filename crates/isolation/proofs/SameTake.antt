@@ -16,7 +16,7 @@ use Rattle.tables.specs.declared.Kind.TheVariants.{Taken}
 use Rattle.tables.specs.Names.{no_name, eq_name, same_program, head_ticket, entry_for}
 use Rattle.tables.specs.Lookup.{tickets_of, last_of, lookup, entry_of}
 use Rattle.tables.specs.Change.{is_free, new_name}
-use Rattle.tables.proofs.NameLaws.{name_eq, eqName-true, eqName-ne, program_same}
+use Rattle.tables.proofs.NameLaws.{name_eq, eq_name_true, eq_name_ne, program_same}
 use Rattle.machine.specs.declared.Request.{Request}
 use Rattle.machine.specs.State.{State, accepted, sheet_at, put_sheets, clear_sheets}
 use Rattle.machine.specs.Take.{take_tables, after_take}
@@ -113,20 +113,20 @@ module _ (g : Group) (s u : State) (al : Alike g s u) (r : Request) (mine : g r.
 
   entries_same : (n : Name) → owns g n ≡ true → Case (eq_name n x) → blur_entry (entry_of t₁ n) ≡ blur_entry (entry_of t₂ n)
   entries_same n h (pass e) =
-      let z : n ≡ x = eqName-true n x e in
+      let z : n ≡ x = eq_name_true n x e in
       ap blur_entry (ap (entry_of t₁) z ∙ effect.entry) ∙ ap (λ (m : Name). blur_entry (made m 0)) x≡y
       ∙ ap blur_entry (sym (ap (entry_of t₂) z ∙ entry₂))
-  entries_same n h (fail e) = let z = eqName-ne n x e in ap blur_entry (effect.entries n z) ∙ al.entries n h ∙ ap blur_entry (sym (entries₂ n z))
+  entries_same n h (fail e) = let z = eq_name_ne n x e in ap blur_entry (effect.entries n z) ∙ al.entries n h ∙ ap blur_entry (sym (entries₂ n z))
 
   offset_of : (n : Name) → owns g n ≡ true → is_grant (lookup t₁ n).kind ≡ true → (entry_of t₁ (lookup t₁ n).dock).live ≡ true → Case (eq_name n x)
       → (lookup t₁ n).first + (entry_of t₂ (lookup t₁ n).dock).first ≡ (lookup t₂ n).first + (entry_of t₁ (lookup t₁ n).dock).first
   offset_of n h k l (pass e) =
-      let z : n ≡ x = eqName-true n x e in
+      let z : n ≡ x = eq_name_true n x e in
       let a : lookup t₁ n ≡ taken x f₁ = ap (lookup t₁) z ∙ effect.ticket in
       let b : lookup t₂ n ≡ taken y f₂ = ap (lookup t₂) z ∙ ticket₂ in
       rw (a, b, effect.entry, entry₂) (omega arith)
   offset_of n h k l (fail e) =
-      let z = eqName-ne n x e in
+      let z = eq_name_ne n x e in
       let a = effect.tickets n z in
       let k₀ : is_grant (lookup s.tables n).kind ≡ true = rw a at k in
       let l₀ : (entry_of t₁ (lookup s.tables n).dock).live ≡ true = rw a at l in
@@ -157,24 +157,24 @@ module _ (g : Group) (s u : State) (al : Alike g s u) (r : Request) (mine : g r.
   overlap_of : (n m : Name) (a b : ℕ) → Mine g t₁ n a → Mine g t₁ m b → Case (eq_name n x) → Case (eq_name m x)
       → (sheet_in t₁ n a ≡ sheet_in t₁ m b) ↔ (sheet_in t₂ n a ≡ sheet_in t₂ m b)
   overlap_of n m a b h k (pass v) (pass w) =
-      let p = eqName-true n x v in
-      let q = eqName-true m x w in
+      let p = eq_name_true n x v in
+      let q = eq_name_true m x w in
       rw (new₁ n p, new₂ n p, new₁ m q, new₂ m q) ((λ e. omega arith), (λ e. omega arith))
   overlap_of n m a b h k (pass v) (fail w) =
-      let p = eqName-true n x v in
-      let ne = eqName-ne m x w in
+      let p = eq_name_true n x v in
+      let ne = eq_name_ne m x w in
       let c : a < r.count = rw (new₁ n p) at h.low in
       rw (new₁ n p, new₂ n p, effect.entries m ne, entries₂ m ne)
       ((λ e. absurd (never m b a (mine_before ne k) c e)), (λ e. absurd (never₂ m b a (mine_before ne k) c e)))
   overlap_of n m a b h k (fail v) (pass w) =
-      let ne = eqName-ne n x v in
-      let q = eqName-true m x w in
+      let ne = eq_name_ne n x v in
+      let q = eq_name_true m x w in
       let c : b < r.count = rw (new₁ m q) at k.low in
       rw (effect.entries n ne, entries₂ n ne, new₁ m q, new₂ m q)
       ((λ e. absurd (never n a b (mine_before ne h) c (sym e))), (λ e. absurd (never₂ n a b (mine_before ne h) c (sym e))))
   overlap_of n m a b h k (fail v) (fail w) =
-      let p = eqName-ne n x v in
-      let q = eqName-ne m x w in
+      let p = eq_name_ne n x v in
+      let q = eq_name_ne m x w in
       rw (effect.entries n p, entries₂ n p, effect.entries m q, entries₂ m q) (al.overlap n m a b (mine_before p h) (mine_before q k))
 
   -- ---- bytes
@@ -184,13 +184,13 @@ module _ (g : Group) (s u : State) (al : Alike g s u) (r : Request) (mine : g r.
   bytes_of : (n : Name) (a : ℕ) → Mine g t₁ n a → Case (eq_name n x)
       → sheet_at (sheet_in t₁ n a) (put_sheets f₁ zeros s.store) ≡ sheet_at (sheet_in t₂ n a) (put_sheets f₂ zeros u.store)
   bytes_of n a m (pass v) =
-      let p = eqName-true n x v in
+      let p = eq_name_true n x v in
       let c : a < r.count = rw (new₁ n p) at m.low in
       rw (new₁ n p, new₂ n p)
       (sheet_put f₁ r.count zeros s.store al.here.dock.store (length-replicate _ 0) (best_fits s.tables.entries r.count may.some may.run) a c
       ∙ sym (sheet_put f₂ r.count zeros u.store al.there.dock.store (length-replicate _ 0) (best_fits u.tables.entries r.count may₂.some may₂.run) a c))
   bytes_of n a m (fail v) =
-      let ne = eqName-ne n x v in
+      let ne = eq_name_ne n x v in
       let m₁ : Mine g s.tables n a = mine_before ne m in
       let m₂ : Mine g u.tables n a = mine_there g s u al m₁ in
       rw (effect.entries n ne, entries₂ n ne)

@@ -12,7 +12,7 @@ use Rattle.tables.specs.Lookup.{last_of, lookup, entry_of}
 use Rattle.tables.specs.Chains.{reaches, parent_of, at_or_under, entry_parent, at_or_below}
 use Rattle.tables.specs.Order.{under_store}
 use Rattle.tables.proofs.KindLaws.{live_grant, grant_sort, up_child, up_recall, has_parent_lem}
-use Rattle.tables.proofs.NameLaws.{eqName-true, eqName-false}
+use Rattle.tables.proofs.NameLaws.{eq_name_true, eq_name_false}
 use Rattle.tables.proofs.Links.{reaches_here, reaches_next}
 use Rattle.machine.specs.Sequence.{Group}
 use Rattle.machine.specs.Isolation.{owns, Unlinked}
@@ -54,7 +54,7 @@ module _ (g : Group) (t : Tables) (ok : InOrder t) (apart : Unlinked g t) where
   -- ---- nothing of the group's reaches a name of the others
   module _ (x : Name) (away : owns g x ≡ false) where
     other : (n : Name) → owns g n ≡ true → eq_name n x ≡ false
-    other n h = eqName-false n x (λ e. no_true (sym away ∙ ap (owns g) (sym e) ∙ h))
+    other n h = eq_name_false n x (λ e. no_true (sym away ∙ ap (owns g) (sym e) ∙ h))
 
     -- over any chain whose links stay on their side
     reaches_not : (parent : Name → Name) (good : Name → Type 0)
@@ -83,7 +83,7 @@ module _ (g : Group) (t : Tables) (ok : InOrder t) (apart : Unlinked g t) where
       go (fail h) (pass l) = no_true (sym (not_below x h n o l) ∙ e)
       go (fail h) (fail l) =
           let z : under_store (entry_of t n) ≡ true = ap under_store (no_entry_there t n l) in
-          ap (owns g) (sym (eqName-true n x (sym (at_root t ok x n z) ∙ e))) ∙ o
+          ap (owns g) (sym (eq_name_true n x (sym (at_root t ok x n z) ∙ e))) ∙ o
 
   -- a recall from which the group's entry was lent away is the group's
   pub lender_side : (gone : Name → Bool) (n : Name) → owns g n ≡ true → (f : LentFrom t gone n) → owns g f.by ≡ true

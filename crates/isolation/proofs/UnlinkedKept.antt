@@ -9,7 +9,7 @@ use Rattle.tables.specs.Names.{eq_name}
 use Rattle.tables.specs.Lookup.{lookup, entry_of}
 use Rattle.tables.specs.Order.{under_store}
 use Rattle.tables.proofs.KindLaws.{live_child, live_recall}
-use Rattle.tables.proofs.NameLaws.{eqName-true, eqName-ne}
+use Rattle.tables.proofs.NameLaws.{eq_name_true, eq_name_ne}
 use Rattle.machine.specs.declared.Request.{Request}
 use Rattle.machine.specs.State.{asked_name}
 use Rattle.machine.specs.Pass.{pass_tables}
@@ -47,16 +47,16 @@ unlinked_take g t t' r x s effect apart = record {
 }
   where
     parent : (n : Name) → is_child (lookup t' n).kind ≡ true → Case (eq_name n x) → owns g (lookup t' n).other ≡ owns g n
-    parent n h (pass e) = let a = ap (lookup t') (eqName-true n x e) ∙ effect.ticket in no_true (rw a at h)
-    parent n h (fail e) = let a = effect.tickets n (eqName-ne n x e) in rw a (apart.parent n (rw a at h))
+    parent n h (pass e) = let a = ap (lookup t') (eq_name_true n x e) ∙ effect.ticket in no_true (rw a at h)
+    parent n h (fail e) = let a = effect.tickets n (eq_name_ne n x e) in rw a (apart.parent n (rw a at h))
 
     target : (n : Name) → is_recall (lookup t' n).kind ≡ true → Case (eq_name n x) → owns g (lookup t' n).other ≡ owns g n
-    target n h (pass e) = let a = ap (lookup t') (eqName-true n x e) ∙ effect.ticket in no_true (rw a at h)
-    target n h (fail e) = let a = effect.tickets n (eqName-ne n x e) in rw a (apart.target n (rw a at h))
+    target n h (pass e) = let a = ap (lookup t') (eq_name_true n x e) ∙ effect.ticket in no_true (rw a at h)
+    target n h (fail e) = let a = effect.tickets n (eq_name_ne n x e) in rw a (apart.target n (rw a at h))
 
     entry : (n : Name) → (entry_of t' n).live ≡ true → under_store (entry_of t' n) ≡ false → Case (eq_name n x) → owns g (entry_of t' n).parent ≡ owns g n
-    entry n l z (pass h) = no_true (sym z ∙ ap under_store (ap (entry_of t') (eqName-true n x h) ∙ effect.entry))
-    entry n l z (fail h) = let a = effect.entries n (eqName-ne n x h) in rw a (apart.entry n (rw a at l) (rw a at z))
+    entry n l z (pass h) = no_true (sym z ∙ ap under_store (ap (entry_of t') (eq_name_true n x h) ∙ effect.entry))
+    entry n l z (fail h) = let a = effect.entries n (eq_name_ne n x h) in rw a (apart.entry n (rw a at l) (rw a at z))
 
 -- ---- pass: x is the recall, y the new grant k
 module _ (g : Group) (t : Tables) (ok : InOrder t) (apart : Unlinked g t) (r : Request) (may : MayPass t r)
@@ -79,24 +79,24 @@ module _ (g : Group) (t : Tables) (ok : InOrder t) (apart : Unlinked g t) (r : R
   }
     where
       parent : (n : Name) → is_child (lookup t' n).kind ≡ true → Case (eq_name n x) → Case (eq_name n y) → owns g (lookup t' n).other ≡ owns g n
-      parent n h (pass e) _ = let a = ap (lookup t') (eqName-true n x e) ∙ effect.recall in no_true (rw a at h)
+      parent n h (pass e) _ = let a = ap (lookup t') (eq_name_true n x e) ∙ effect.recall in no_true (rw a at h)
       parent n h (fail d) (pass e) =
-          let q : n ≡ y = eqName-true n y e in
+          let q : n ≡ y = eq_name_true n y e in
           let a : lookup t' n ≡ k = ap (lookup t') q ∙ effect.grant in
           rw a (up (rw a at h) ∙ ap (owns g) (sym q))
-      parent n h (fail d) (fail e) = let a = effect.tickets n (eqName-ne n x d) (eqName-ne n y e) in rw a (apart.parent n (rw a at h))
+      parent n h (fail d) (fail e) = let a = effect.tickets n (eq_name_ne n x d) (eq_name_ne n y e) in rw a (apart.parent n (rw a at h))
 
       target : (n : Name) → is_recall (lookup t' n).kind ≡ true → Case (eq_name n x) → Case (eq_name n y) → owns g (lookup t' n).other ≡ owns g n
       target n h (pass e) _ =
-          let q : n ≡ x = eqName-true n x e in
+          let q : n ≡ x = eq_name_true n x e in
           let a = ap (lookup t') q ∙ effect.recall in
           rw a (tie ∙ ap (owns g) (sym q))
-      target n h (fail d) (pass e) = let a : lookup t' n ≡ k = ap (lookup t') (eqName-true n y e) ∙ effect.grant in no_true (sym plain ∙ (rw a at h))
-      target n h (fail d) (fail e) = let a = effect.tickets n (eqName-ne n x d) (eqName-ne n y e) in rw a (apart.target n (rw a at h))
+      target n h (fail d) (pass e) = let a : lookup t' n ≡ k = ap (lookup t') (eq_name_true n y e) ∙ effect.grant in no_true (sym plain ∙ (rw a at h))
+      target n h (fail d) (fail e) = let a = effect.tickets n (eq_name_ne n x d) (eq_name_ne n y e) in rw a (apart.target n (rw a at h))
 
       entry : (n : Name) → (entry_of t' n).live ≡ true → under_store (entry_of t' n) ≡ false → Case (eq_name n y) → owns g (entry_of t' n).parent ≡ owns g n
-      entry n l z (pass h) = let q : n ≡ y = eqName-true n y h in rw q (at_y (rw q at l) (rw q at z))
-      entry n l z (fail h) = let a = effect.entries n (eqName-ne n y h) in rw a (apart.entry n (rw a at l) (rw a at z))
+      entry n l z (pass h) = let q : n ≡ y = eq_name_true n y h in rw q (at_y (rw q at l) (rw q at z))
+      entry n l z (fail h) = let a = effect.entries n (eq_name_ne n y h) in rw a (apart.entry n (rw a at l) (rw a at z))
 
   pub unlinked_near : r.pad ≡ r.topad → Unlinked g t'
   unlinked_near same =

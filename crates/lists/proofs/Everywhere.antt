@@ -28,25 +28,25 @@ module _ {A : Type 0} (d : A) where
   all_elim f (x ∷ xs) e zero h = and_l (f x) (all f xs) e
   all_elim f (x ∷ xs) e (suc j) h = all_elim f xs (and_r (f x) (all f xs) e) j (le_of_suc-le-suc h)
 
-  allAt-from : (f : ℕ → A → Bool) (i : ℕ) (l : List A) → ((j : ℕ) → j < length l → f (i + j) (get_or l j d) ≡ true) → all_at f i l ≡ true
+  all_at_from : (f : ℕ → A → Bool) (i : ℕ) (l : List A) → ((j : ℕ) → j < length l → f (i + j) (get_or l j d) ≡ true) → all_at f i l ≡ true
   unfolding all_at
-  allAt-from f i [] h = refl
-  allAt-from f i (x ∷ xs) h =
+  all_at_from f i [] h = refl
+  all_at_from f i (x ∷ xs) h =
       and_intro (subst (λ (m : ℕ). f m x ≡ true) (omega arith) (h 0 (omega arith)))
-      (allAt-from f (suc i) xs (λ j b. subst (λ (m : ℕ). f m (get_or xs j d) ≡ true) (omega arith) (h (suc j) (omega arith))))
+      (all_at_from f (suc i) xs (λ j b. subst (λ (m : ℕ). f m (get_or xs j d) ≡ true) (omega arith) (h (suc j) (omega arith))))
 
-  allAt-to : (f : ℕ → A → Bool) (i : ℕ) (l : List A) → all_at f i l ≡ true → (j : ℕ) → j < length l → f (i + j) (get_or l j d) ≡ true
+  all_at_to : (f : ℕ → A → Bool) (i : ℕ) (l : List A) → all_at f i l ≡ true → (j : ℕ) → j < length l → f (i + j) (get_or l j d) ≡ true
   unfolding all_at
-  allAt-to f i [] e j h = absurd (not-suc-le-zero h)
-  allAt-to f i (x ∷ xs) e zero h = subst (λ (m : ℕ). f m x ≡ true) (omega arith) (and_l (f i x) _ e)
-  allAt-to f i (x ∷ xs) e (suc j) h =
-      subst (λ (m : ℕ). f m (get_or xs j d) ≡ true) (omega arith) (allAt-to f (suc i) xs (and_r (f i x) _ e) j (le_of_suc-le-suc h))
+  all_at_to f i [] e j h = absurd (not-suc-le-zero h)
+  all_at_to f i (x ∷ xs) e zero h = subst (λ (m : ℕ). f m x ≡ true) (omega arith) (and_l (f i x) _ e)
+  all_at_to f i (x ∷ xs) e (suc j) h =
+      subst (λ (m : ℕ). f m (get_or xs j d) ≡ true) (omega arith) (all_at_to f (suc i) xs (and_r (f i x) _ e) j (le_of_suc-le-suc h))
 
-  pub allAt-intro : (f : ℕ → A → Bool) (l : List A) → ((j : ℕ) → j < length l → f j (get_or l j d) ≡ true) → all_at f 0 l ≡ true
-  allAt-intro f l h = allAt-from f 0 l (λ j b. subst (λ (m : ℕ). f m (get_or l j d) ≡ true) (sym (zero_plus j)) (h j b))
+  pub all_at_intro : (f : ℕ → A → Bool) (l : List A) → ((j : ℕ) → j < length l → f j (get_or l j d) ≡ true) → all_at f 0 l ≡ true
+  all_at_intro f l h = all_at_from f 0 l (λ j b. subst (λ (m : ℕ). f m (get_or l j d) ≡ true) (sym (zero_plus j)) (h j b))
 
-  pub allAt-elim : (f : ℕ → A → Bool) (l : List A) → all_at f 0 l ≡ true → (j : ℕ) → j < length l → f j (get_or l j d) ≡ true
-  allAt-elim f l e j h = subst (λ (m : ℕ). f m (get_or l j d) ≡ true) (zero_plus j) (allAt-to f 0 l e j h)
+  pub all_at_elim : (f : ℕ → A → Bool) (l : List A) → all_at f 0 l ≡ true → (j : ℕ) → j < length l → f j (get_or l j d) ≡ true
+  all_at_elim f l e j h = subst (λ (m : ℕ). f m (get_or l j d) ≡ true) (zero_plus j) (all_at_to f 0 l e j h)
 
   -- ---- some element passes
   pub record Somewhere (f : ℕ → A → Bool) (l : List A) : Type 0 where
@@ -54,17 +54,17 @@ module _ {A : Type 0} (d : A) where
     pub low : place < length l
     pub passes : f place (get_or l place d) ≡ true
 
-  someAt-from : (f : ℕ → A → Bool) (i : ℕ) (l : List A) (j : ℕ) → j < length l → f (i + j) (get_or l j d) ≡ true → some_at f i l ≡ true
+  some_at_from : (f : ℕ → A → Bool) (i : ℕ) (l : List A) (j : ℕ) → j < length l → f (i + j) (get_or l j d) ≡ true → some_at f i l ≡ true
   unfolding some_at
-  someAt-from f i [] j h e = absurd (not-suc-le-zero h)
-  someAt-from f i (x ∷ xs) zero h e = or_left (some_at f (suc i) xs) (subst (λ (m : ℕ). f m x ≡ true) (omega arith) e)
-  someAt-from f i (x ∷ xs) (suc j) h e =
-      or_right (f i x) (someAt-from f (suc i) xs j (le_of_suc-le-suc h) (subst (λ (m : ℕ). f m (get_or xs j d) ≡ true) (omega arith) e))
+  some_at_from f i [] j h e = absurd (not-suc-le-zero h)
+  some_at_from f i (x ∷ xs) zero h e = or_left (some_at f (suc i) xs) (subst (λ (m : ℕ). f m x ≡ true) (omega arith) e)
+  some_at_from f i (x ∷ xs) (suc j) h e =
+      or_right (f i x) (some_at_from f (suc i) xs j (le_of_suc-le-suc h) (subst (λ (m : ℕ). f m (get_or xs j d) ≡ true) (omega arith) e))
 
-  someAt-to : (f : ℕ → A → Bool) (i : ℕ) (l : List A) → some_at f i l ≡ true → Somewhere (λ j. f (i + j)) l
+  some_at_to : (f : ℕ → A → Bool) (i : ℕ) (l : List A) → some_at f i l ≡ true → Somewhere (λ j. f (i + j)) l
   unfolding some_at
-  someAt-to f i [] e = no_true e
-  someAt-to f i (x ∷ xs) e = go (case (f i x)) (someAt-to f (suc i) xs)
+  some_at_to f i [] e = no_true e
+  some_at_to f i (x ∷ xs) e = go (case (f i x)) (some_at_to f (suc i) xs)
     where
       go : Case (f i x) → (some_at f (suc i) xs ≡ true → Somewhere (λ j. f (suc i + j)) xs) → Somewhere (λ j. f (i + j)) (x ∷ xs)
       go (pass h) ih = record { place = 0; low = omega arith; passes = subst (λ (m : ℕ). f m x ≡ true) (omega arith) h }
@@ -76,12 +76,12 @@ module _ {A : Type 0} (d : A) where
             passes = subst (λ (m : ℕ). f m (get_or xs p.place d) ≡ true) (omega arith) p.passes;
           }
 
-  pub someAt-intro : (f : ℕ → A → Bool) (l : List A) (j : ℕ) → j < length l → f j (get_or l j d) ≡ true → some_at f 0 l ≡ true
-  someAt-intro f l j h e = someAt-from f 0 l j h (subst (λ (m : ℕ). f m (get_or l j d) ≡ true) (sym (zero_plus j)) e)
+  pub some_at_intro : (f : ℕ → A → Bool) (l : List A) (j : ℕ) → j < length l → f j (get_or l j d) ≡ true → some_at f 0 l ≡ true
+  some_at_intro f l j h e = some_at_from f 0 l j h (subst (λ (m : ℕ). f m (get_or l j d) ≡ true) (sym (zero_plus j)) e)
 
-  pub someAt-elim : (f : ℕ → A → Bool) (l : List A) → some_at f 0 l ≡ true → Somewhere f l
-  someAt-elim f l e =
-      let p : Somewhere (λ j. f (0 + j)) l = someAt-to f 0 l e in
+  pub some_at_elim : (f : ℕ → A → Bool) (l : List A) → some_at f 0 l ≡ true → Somewhere f l
+  some_at_elim f l e =
+      let p : Somewhere (λ j. f (0 + j)) l = some_at_to f 0 l e in
       record {
         place = p.place;
         low = p.low;
@@ -95,21 +95,21 @@ module _ {A : Type 0} (d : A) where
   some_at_lem f i (x ∷ xs) = ap (λ (b : Bool). f x || b) (some_at_lem f (suc i) xs)
 
   pub some_intro : (f : A → Bool) (l : List A) (j : ℕ) → j < length l → f (get_or l j d) ≡ true → some f l ≡ true
-  some_intro f l j h e = some_at_lem f 0 l ∙ someAt-intro (λ i. f) l j h e
+  some_intro f l j h e = some_at_lem f 0 l ∙ some_at_intro (λ i. f) l j h e
 
   pub some_elim : (f : A → Bool) (l : List A) → some f l ≡ true → Somewhere (λ i. f) l
-  some_elim f l e = someAt-elim (λ i. f) l (sym (some_at_lem f 0 l) ∙ e)
+  some_elim f l e = some_at_elim (λ i. f) l (sym (some_at_lem f 0 l) ∙ e)
 
   -- ---- no two elements that count are alike
   module _ (counts : A → Bool) (alike : A → A → Bool) where
-    pub noTwo-intro : (l : List A)
+    pub no_two_intro : (l : List A)
         → ((i j : ℕ) → i < j → j < length l → counts (get_or l i d) ≡ true → counts (get_or l j d) ≡ true → alike (get_or l i d) (get_or l j d) ≡ false)
         → no_two counts alike l ≡ true
     unfolding no_two
-    noTwo-intro [] h = refl
-    noTwo-intro (x ∷ xs) h =
+    no_two_intro [] h = refl
+    no_two_intro (x ∷ xs) h =
         and_intro (implies_intro (counts x) _ (λ c. not_test (some (λ y. counts y && alike x y) xs) (cannot_pass (some (λ y. counts y && alike x y) xs) (alone c))))
-        (noTwo-intro xs (λ i j p q. h (suc i) (suc j) (omega arith) (omega arith)))
+        (no_two_intro xs (λ i j p q. h (suc i) (suc j) (omega arith) (omega arith)))
       where
         alone : counts x ≡ true → some (λ y. counts y && alike x y) xs ≡ true → ⊥
         alone c e =
@@ -117,29 +117,29 @@ module _ {A : Type 0} (d : A) where
             contradiction (and_r (counts (get_or xs p.place d)) _ p.passes)
             (h 0 (suc p.place) (omega arith) (omega (arith, p.low)) c (and_l (counts (get_or xs p.place d)) _ p.passes))
 
-    pub noTwo-elim : (l : List A) → no_two counts alike l ≡ true
+    pub no_two_elim : (l : List A) → no_two counts alike l ≡ true
         → (i j : ℕ) → i < j → j < length l → counts (get_or l i d) ≡ true → counts (get_or l j d) ≡ true → alike (get_or l i d) (get_or l j d) ≡ false
     unfolding no_two
-    noTwo-elim [] e i j p q c k = absurd (not-suc-le-zero q)
-    noTwo-elim (x ∷ xs) e i zero p q c k = absurd (not-suc-le-zero p)
-    noTwo-elim (x ∷ xs) e zero (suc j) p q c k =
+    no_two_elim [] e i j p q c k = absurd (not-suc-le-zero q)
+    no_two_elim (x ∷ xs) e i zero p q c k = absurd (not-suc-le-zero p)
+    no_two_elim (x ∷ xs) e zero (suc j) p q c k =
         cannot_pass (alike x (get_or xs j d))
         (λ h.
         contradiction (some_intro (λ y. counts y && alike x y) xs j (le_of_suc-le-suc q) (and_intro k h))
         (not-true (some (λ y. counts y && alike x y) xs) (implies_elim (counts x) _ (and_l (implies (counts x) _) _ e) c)))
-    noTwo-elim (x ∷ xs) e (suc i) (suc j) p q c k =
-        noTwo-elim xs (and_r (implies (counts x) (not (some (λ y. counts y && alike x y) xs))) _ e) i j (le_of_suc-le-suc p) (le_of_suc-le-suc q) c k
+    no_two_elim (x ∷ xs) e (suc i) (suc j) p q c k =
+        no_two_elim xs (and_r (implies (counts x) (not (some (λ y. counts y && alike x y) xs))) _ e) i j (le_of_suc-le-suc p) (le_of_suc-le-suc q) c k
 
   -- ---- every element changed
-  mapAt-from : (h : ℕ → A → A) → ((i : ℕ) → h i d ≡ d) → (i : ℕ) (l : List A) (j : ℕ) → get_or (map_at h i l) j d ≡ h (i + j) (get_or l j d)
+  map_at_from : (h : ℕ → A → A) → ((i : ℕ) → h i d ≡ d) → (i : ℕ) (l : List A) (j : ℕ) → get_or (map_at h i l) j d ≡ h (i + j) (get_or l j d)
   unfolding map_at
-  mapAt-from h e i [] j = sym (e (i + j))
-  mapAt-from h e i (x ∷ xs) zero = ap (λ (m : ℕ). h m x) (omega arith)
-  mapAt-from h e i (x ∷ xs) (suc j) = mapAt-from h e (suc i) xs j ∙ ap (λ (m : ℕ). h m (get_or xs j d)) (omega arith)
+  map_at_from h e i [] j = sym (e (i + j))
+  map_at_from h e i (x ∷ xs) zero = ap (λ (m : ℕ). h m x) (omega arith)
+  map_at_from h e i (x ∷ xs) (suc j) = map_at_from h e (suc i) xs j ∙ ap (λ (m : ℕ). h m (get_or xs j d)) (omega arith)
 
   -- a change that keeps the default, at any place
-  pub getD-mapAt : (h : ℕ → A → A) → ((i : ℕ) → h i d ≡ d) → (l : List A) (j : ℕ) → get_or (map_at h 0 l) j d ≡ h j (get_or l j d)
-  getD-mapAt h e l j = mapAt-from h e 0 l j ∙ ap (λ (m : ℕ). h m (get_or l j d)) (zero_plus j)
+  pub get_or_map_at : (h : ℕ → A → A) → ((i : ℕ) → h i d ≡ d) → (l : List A) (j : ℕ) → get_or (map_at h 0 l) j d ≡ h j (get_or l j d)
+  get_or_map_at h e l j = map_at_from h e 0 l j ∙ ap (λ (m : ℕ). h m (get_or l j d)) (zero_plus j)
 
 module _ {A : Type 0} where
   -- two lists, one behind the other
@@ -148,10 +148,10 @@ module _ {A : Type 0} where
   all_append f [] m p q = q
   all_append f (x ∷ l) m p q = and_intro (and_l (f x) (all f l) p) (all_append f l m (and_r (f x) (all f l) p) q)
 
-  pub length-mapAt : (h : ℕ → A → A) (i : ℕ) (l : List A) → length (map_at h i l) ≡ length l
+  pub length_map_at : (h : ℕ → A → A) (i : ℕ) (l : List A) → length (map_at h i l) ≡ length l
   unfolding map_at
-  length-mapAt h i [] = refl
-  length-mapAt h i (x ∷ xs) = ap suc (length-mapAt h (suc i) xs)
+  length_map_at h i [] = refl
+  length_map_at h i (x ∷ xs) = ap suc (length_map_at h (suc i) xs)
 
   pub map_id : (h : A → A) → ((x : A) → h x ≡ x) → (l : List A) → map h l ≡ l
   map_id h e [] = refl

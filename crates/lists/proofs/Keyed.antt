@@ -13,7 +13,7 @@ use lib.Seq.{get_or-set_same, get_or-set_other}
 use borrow.Author.Tests.{eqb-true, eqb-false, ltb-true, ltb-false, not-true}
 use Rattle.lists.specs.Lists.{first_index, some, no_two}
 use Rattle.lists.proofs.Tests.{Case, pass, fail, case, no_true, contradiction, cannot_pass, and_l, and_r, and_intro}
-use Rattle.lists.proofs.Everywhere.{noTwo-intro, noTwo-elim}
+use Rattle.lists.proofs.Everywhere.{no_two_intro, no_two_elim}
 use Rattle.lists.proofs.Search.{find_passes, first_bound, some_first, none_found, find_put_other, find_put_same, find_map_none, find_map_same}
 
 -- what makes a list keyed: which elements are live, their keys, when two keys are the same, and what a vacant place finds
@@ -91,7 +91,7 @@ module _ {A K : Type 0} (keys : Keys A K) where
         clash : (i j : ℕ) → i < j → j < length l → live (get_or l i none) ≡ true → live (get_or l j none) ≡ true → key (get_or l i none) ≡ key (get_or l j none) → ⊥
         clash i j p c h k q =
             contradiction (ap (keys.same (key (get_or l i none))) (sym q) ∙ laws.same_refl (key (get_or l i none)))
-            (noTwo-elim none (λ x. live x) (λ x y. keys.same (key x) (key y)) l e i j p c h k)
+            (no_two_elim none (λ x. live x) (λ x y. keys.same (key x) (key y)) l e i j p c h k)
 
         go : Case (ltb i j) → Case (ltb j i) → i ≡ j
         go (pass p) _ = absurd (clash i j (ltb-true i j p) c h k q)
@@ -103,7 +103,7 @@ module _ {A K : Type 0} (keys : Keys A K) where
 
     pub distinct_test_lem : (l : List A) → Distinct l → distinct_test l ≡ true
     distinct_test_lem l one =
-        noTwo-intro none (λ x. live x) (λ x y. keys.same (key x) (key y)) l
+        no_two_intro none (λ x. live x) (λ x y. keys.same (key x) (key y)) l
         (λ i j p c h k. cannot_pass (keys.same (key (get_or l i none)) (key (get_or l j none)))
         (λ e. let q : i ≡ j = one i j (omega arith) c h k (laws.same_true (key (get_or l i none)) (key (get_or l j none)) e) in omega arith))
 
@@ -150,8 +150,8 @@ module _ {A K : Type 0} (keys : Keys A K) where
 
           go : Case (ltb (first_index (has n) l) (first_index (has m) l)) → Case (ltb (first_index (has m) l) (first_index (has n) l))
               → (alike (by_key l n) (by_key l m) ≡ false) ⊎ (alike (by_key l m) (by_key l n) ≡ false)
-          go (pass p) _ = inl (noTwo-elim none counts alike l e _ _ (ltb-true (first_index (has n) l) (first_index (has m) l) p) (found_low l m lm) h k)
-          go (fail p) (pass q) = inr (noTwo-elim none counts alike l e _ _ (ltb-true (first_index (has m) l) (first_index (has n) l) q) (found_low l n ln) k h)
+          go (pass p) _ = inl (no_two_elim none counts alike l e _ _ (ltb-true (first_index (has n) l) (first_index (has m) l) p) (found_low l m lm) h k)
+          go (fail p) (pass q) = inr (no_two_elim none counts alike l e _ _ (ltb-true (first_index (has m) l) (first_index (has n) l) q) (found_low l n ln) k h)
           go (fail p) (fail q) =
               let u : first_index (has m) l ≤ first_index (has n) l = ltb-false (first_index (has n) l) (first_index (has m) l) p in
               let v : first_index (has n) l ≤ first_index (has m) l = ltb-false (first_index (has m) l) (first_index (has n) l) q in
@@ -162,7 +162,7 @@ module _ {A K : Type 0} (keys : Keys A K) where
           → ((n m : K) → (n ≡ m → ⊥) → counts (by_key l n) ≡ true → counts (by_key l m) ≡ true → alike (by_key l n) (by_key l m) ≡ false)
           → no_two counts alike l ≡ true
       keys_no_two one f =
-          noTwo-intro none counts alike l
+          no_two_intro none counts alike l
           (λ i j p c h k.
           let li = lives (get_or l i none) h in
           let lj = lives (get_or l j none) k in

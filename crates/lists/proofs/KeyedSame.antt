@@ -10,7 +10,7 @@ use Rattle.lists.specs.Lists.{first_index, some}
 use Rattle.lists.proofs.Tests.{contradiction, cannot_fail, not_test}
 use Rattle.lists.proofs.Everywhere.{some_intro}
 use Rattle.lists.proofs.Search.{find_passes, some_first}
-use Rattle.lists.proofs.Pigeonhole.{none_left_out}
+use Rattle.lists.proofs.NoneLeftOut.{none_left_out}
 use Rattle.lists.proofs.Keyed.{Keys, Lawful, live, key, none, has, vacant, by_key, Distinct, found_low, found_key, found_at}
 
 module _ {A K : Type 0} (keys : Keys A K) (laws : Lawful keys) (l m : List A) (len : length l ≡ length m) (one : Distinct keys m)

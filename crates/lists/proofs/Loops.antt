@@ -11,7 +11,7 @@ use lib.Seq.{drop-cons}
 use borrow.Author.Tests.{eqb-true, eqb-false}
 use Rattle.lists.specs.Lists.{first_index, all, all_at}
 use Rattle.lists.proofs.Tests.{Case, pass, fail, case, cannot_pass, no_true}
-use Rattle.lists.proofs.Everywhere.{all_elim, allAt-elim}
+use Rattle.lists.proofs.Everywhere.{all_elim, all_at_elim}
 
 module _ {A : Type 0} (f : A → Bool) (l : List A) where
   pub first_end : (i : ℕ) → length l ≤ i → first_index f l ≡ i + first_index f (drop i l) → i ≡ first_index f l
@@ -62,5 +62,5 @@ module _ {A : Type 0} (d : A) where
   pub all_broken : (f : A → Bool) (l : List A) (i : ℕ) → i < length l → f (get_or l i d) ≡ false → false ≡ all f l
   all_broken f l i h e = sym (cannot_pass (all f l) (λ p. no_true (sym e ∙ all_elim d f l p i h)))
 
-  pub allAt-broken : (f : ℕ → A → Bool) (l : List A) (i : ℕ) → i < length l → f i (get_or l i d) ≡ false → false ≡ all_at f 0 l
-  allAt-broken f l i h e = sym (cannot_pass (all_at f 0 l) (λ p. no_true (sym e ∙ allAt-elim d f l p i h)))
+  pub all_at_broken : (f : ℕ → A → Bool) (l : List A) (i : ℕ) → i < length l → f i (get_or l i d) ≡ false → false ≡ all_at f 0 l
+  all_at_broken f l i h e = sym (cannot_pass (all_at f 0 l) (λ p. no_true (sym e ∙ all_at_elim d f l p i h)))

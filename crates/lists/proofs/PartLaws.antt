@@ -25,11 +25,11 @@ module _ {A : Type 0} where
   length_tabulate zero element = refl
   length_tabulate (suc n) element = ap suc (length_tabulate n (λ i. element (suc i)))
 
-  pub get_d_tabulate : (n : ℕ) (element : ℕ → A) (i : ℕ) (d : A) → i < n → get_or (tabulate n element) i d ≡ element i
+  pub get_or_tabulate : (n : ℕ) (element : ℕ → A) (i : ℕ) (d : A) → i < n → get_or (tabulate n element) i d ≡ element i
   unfolding tabulate
-  get_d_tabulate zero element i d h = absurd (omega arith)
-  get_d_tabulate (suc n) element zero d h = refl
-  get_d_tabulate (suc n) element (suc i) d h = get_d_tabulate n (λ i. element (suc i)) i d (omega arith)
+  get_or_tabulate zero element i d h = absurd (omega arith)
+  get_or_tabulate (suc n) element zero d h = refl
+  get_or_tabulate (suc n) element (suc i) d h = get_or_tabulate n (λ i. element (suc i)) i d (omega arith)
 
   pub tabulate_last : (n : ℕ) (element : ℕ → A) → tabulate (suc n) element ≡ tabulate n element ++ element n ∷ []
   unfolding tabulate
@@ -40,7 +40,7 @@ module _ {A : Type 0} where
   pub tabulated : (d : A) (n m : ℕ) (element : ℕ → A) (l : List A) → n ≤ m → Laid d n element m l → l ≡ tabulate n element
   tabulated d n m element l h laid =
       ext_get_or d l (tabulate n element) (laid.long ∙ sym (length_tabulate n element))
-      (λ i low. laid.same i (omega (arith, laid.long)) ∙ sym (get_d_tabulate n element i d (omega (arith, laid.long))))
+      (λ i low. laid.same i (omega (arith, laid.long)) ∙ sym (get_or_tabulate n element i d (omega (arith, laid.long))))
 
 -- every number below n passes a test
 abbrev up_to : ℕ → List ℕ
@@ -50,15 +50,15 @@ module _ (n : ℕ) (test : ℕ → Bool) where
   pub every_intro : ((i : ℕ) → i < n → test i ≡ true) → all test (up_to n) ≡ true
   every_intro each =
       all_intro 0 test (up_to n)
-      (λ i h. let low : i < n = omega (arith, length_tabulate n (λ j. j)) in rw (get_d_tabulate n (λ j. j) i 0 low) (each i low))
+      (λ i h. let low : i < n = omega (arith, length_tabulate n (λ j. j)) in rw (get_or_tabulate n (λ j. j) i 0 low) (each i low))
 
   pub every_at : all test (up_to n) ≡ true → (i : ℕ) → i < n → test i ≡ true
   every_at e i h =
-      subst (λ (j : ℕ). test j ≡ true) (get_d_tabulate n (λ j. j) i 0 h) (all_elim 0 test (up_to n) e i (omega (arith, length_tabulate n (λ j. j))))
+      subst (λ (j : ℕ). test j ≡ true) (get_or_tabulate n (λ j. j) i 0 h) (all_elim 0 test (up_to n) e i (omega (arith, length_tabulate n (λ j. j))))
 
   pub every_broken : (i : ℕ) → i < n → test i ≡ false → false ≡ all test (up_to n)
   every_broken i h e =
-      all_broken 0 test (up_to n) i (omega (arith, length_tabulate n (λ j. j))) (rw (get_d_tabulate n (λ j. j) i 0 h) e)
+      all_broken 0 test (up_to n) i (omega (arith, length_tabulate n (λ j. j))) (rw (get_or_tabulate n (λ j. j) i 0 h) e)
 
 -- ---- parts, all of one width
 -- the whole begins with a part
@@ -226,4 +226,4 @@ module _ {A B : Type 0} (w n : ℕ) (part : A → List B) (d : A) where
     pub parts_cut : (bytes : List B) → ((i : ℕ) → i < n → part (read_at bytes i) ≡ take w (drop (w * i) bytes))
         → joined n (part_at (tabulate n (read_at bytes))) ≡ take (w * n) bytes
     parts_cut bytes cut =
-        joined_cut w (part_at (tabulate n (read_at bytes))) n bytes (λ i h. ap part (get_d_tabulate n (read_at bytes) i d h) ∙ cut i h)
+        joined_cut w (part_at (tabulate n (read_at bytes))) n bytes (λ i h. ap part (get_or_tabulate n (read_at bytes) i d h) ∙ cut i h)

@@ -5,7 +5,7 @@ use borrow.Author.Tests.{eq-eqb, ne_eqb, not-true}
 use Rattle.lists.proofs.Tests.{contradiction, cannot_pass, and_l, and_r, and_intro, not_test}
 use Rattle.tables.specs.declared.{Name.Name, Entry.Entry}
 use Rattle.tables.specs.Names.{eq_name, is_none}
-use Rattle.tables.proofs.NameLaws.{eqName-true, eqName-test}
+use Rattle.tables.proofs.NameLaws.{eq_name_true, eq_name_test}
 use Rattle.op_drop_entries.specs.Links.{directly_below}
 
 module _ (n : Name) (e : Entry) where
@@ -21,11 +21,11 @@ module _ (n : Name) (e : Entry) where
   pub below_parent : directly_below n e ≡ true → e.parent ≡ n
   unfolding directly_below
   below_parent h =
-      eqName-true e.parent n (and_r (not (is_none e.parent)) _ (and_r e.live (not (is_none e.parent) && eq_name e.parent n) h))
+      eq_name_true e.parent n (and_r (not (is_none e.parent)) _ (and_r e.live (not (is_none e.parent) && eq_name e.parent n) h))
 
   pub below_intro : e.live ≡ true → is_none e.parent ≡ false → e.parent ≡ n → directly_below n e ≡ true
   unfolding directly_below
-  below_intro l z p = and_intro l (and_intro (not_test (is_none e.parent) z) (eqName-test e.parent n p))
+  below_intro l z p = and_intro l (and_intro (not_test (is_none e.parent) z) (eq_name_test e.parent n p))
 
 -- its test in code
 module _ (n : Name) (e : Entry) where

@@ -10,7 +10,7 @@ use lib.ListN.{length, get_or, set, length-set}
 use lib.Seq.{get_or-set_same, get_or-set_other}
 use borrow.Author.Tests.{eqb-true, eqb-false, ltb-true, ltb-false}
 use Rattle.lists.proofs.Tests.{Case, pass, fail, case, contradiction, and_l, and_r, and_intro}
-use Rattle.lists.proofs.Pigeonhole.{none_left_out}
+use Rattle.lists.proofs.NoneLeftOut.{none_left_out}
 use Rattle.tables.specs.declared.{Name.Name, Entry.Entry}
 use Rattle.tables.specs.Names.{no_entry}
 use Rattle.tables.specs.Change.{drop_entry}

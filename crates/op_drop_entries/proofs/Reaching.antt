@@ -16,7 +16,7 @@ use Rattle.tables.specs.Names.{eq_name, is_none, no_entry}
 use Rattle.tables.specs.Lookup.{is_named, entry_in}
 use Rattle.tables.specs.Chains.{reaches, end_of, entry_parent}
 use Rattle.tables.specs.Change.{drop_entry}
-use Rattle.tables.proofs.NameLaws.{eqName-true}
+use Rattle.tables.proofs.NameLaws.{eq_name_true}
 use Rattle.tables.proofs.Keys.{entry_keys, entry_laws}
 use Rattle.tables.proofs.ByPlace.{at}
 use Rattle.tables.proofs.Links.{reaches_next, end_next}
@@ -32,7 +32,7 @@ module _ (parent : Name → Name) (x : Name) where
   reaches_how left n h = go (case (eq_name n x)) (case (is_none (parent n)))
     where
       go : Case (eq_name n x) → Case (is_none (parent n)) → (n ≡ x) ⊎ ((is_none (parent n) ≡ false) × (reaches left parent (parent n) x ≡ true))
-      go (pass e) _ = inl (eqName-true n x e)
+      go (pass e) _ = inl (eq_name_true n x e)
       go (fail e) (pass z) = no_true (rw (e, z) at h)
       go (fail e) (fail z) = inr (z, rw (e, z) at h)
 

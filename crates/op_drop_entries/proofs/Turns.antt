@@ -18,7 +18,7 @@ use Rattle.tables.specs.Names.{no_entry}
 use Rattle.tables.specs.Lookup.{is_named, entry_in}
 use Rattle.tables.specs.Chains.{reaches}
 use Rattle.tables.specs.Change.{drop_entry}
-use Rattle.tables.proofs.NameLaws.{eqName-test}
+use Rattle.tables.proofs.NameLaws.{eq_name_test}
 use Rattle.tables.proofs.ByPlace.{at}
 use Rattle.op_drop_entries.specs.Links.{directly_below, LinkedEntries}
 use Rattle.op_drop_entries.proofs.DirectlyBelow.{below_live}
@@ -30,7 +30,7 @@ use Rattle.op_drop_entries.proofs.Queue.{Removed, Queued, Partly, Swept, Sweepin
 module _ (es : List Entry) (long : length es ≡ 256) (x : Name) (i : ℕ) (b : i < 256) (l : (at es i).live ≡ true) (q : (at es i).name ≡ x) where
   under_itself : under es x (at es i).name ≡ true
   unfolding reaches
-  under_itself = rw (eqName-test (at es i).name x q)
+  under_itself = rw (eq_name_test (at es i).name x q)
 
   first_gone : (queue : List ℕ) → length queue ≡ 256 → Partly es (set es i no_entry) x (set queue 0 i) 1
   first_gone queue r = record {

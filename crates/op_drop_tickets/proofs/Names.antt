@@ -14,7 +14,7 @@ use Rattle.lists.proofs.Keyed.{Distinct, found_low, found_key, found_somewhere}
 use Rattle.tables.specs.declared.{Name.Name, Tables.Tables}
 use Rattle.tables.specs.Names.{name_of, eq_name, free}
 use Rattle.tables.specs.Lookup.{Sized, tickets_of, has_number, ticket_in, lookup}
-use Rattle.tables.proofs.NameLaws.{name_eq, eqName-true, eqName-refl}
+use Rattle.tables.proofs.NameLaws.{name_eq, eq_name_true, eq_name_refl}
 use Rattle.tables.proofs.Keys.{ticket_keys, ticket_laws}
 use Rattle.tables.proofs.ByPlace.{ticket_at, place_low_lem, name_in_range}
 use Rattle.image_places.proofs.Laws.{first_number}
@@ -69,8 +69,8 @@ module _ (t : Tables) (z : Sized t) (a : ℕ) (low : a < 4) where
   pub at_test : (n x : Name) → n.pad ≡ x.pad → at n < 64 → eqb (at n) (at x) ≡ eq_name n x
   at_test n x p h =
       both_ways (eqb (at n) (at x)) (eq_name n x)
-      (λ e. subst (λ (y : Name). eq_name n y ≡ true) (at_once n x p h (eqb-true (at n) (at x) e)) (eqName-refl n))
-      (λ e. eq-eqb (at n) (at x) (ap at (eqName-true n x e)))
+      (λ e. subst (λ (y : Name). eq_name n y ≡ true) (at_once n x p h (eqb-true (at n) (at x) e)) (eq_name_refl n))
+      (λ e. eq-eqb (at n) (at x) (ap at (eq_name_true n x e)))
 
   -- ---- live tickets
   pub found_on : (n : Name) → n.pad ≡ a → lookup t n ≡ ticket_at t a n.program (index n.program n.number)

@@ -8,7 +8,7 @@ use lib.Dec.{eqb}
 use lib.ListN.{length, get_or}
 use borrow.Author.Tests.{eq-eqb, ne_eqb, leb-true, le-leb, ltb-true, lt-ltb}
 use Rattle.lists.proofs.Tests.{contradiction, and_intro}
-use Rattle.lists.proofs.PartLaws.{get_d_tabulate}
+use Rattle.lists.proofs.PartLaws.{get_or_tabulate}
 use Rattle.tables.specs.declared.{Name.Name, Tables.Tables}
 use Rattle.tables.specs.Kinds.{is_live, is_head}
 use Rattle.tables.specs.Names.{name_of}
@@ -44,7 +44,7 @@ is_mark false = refl
 
 pub mark_at : (test : ℕ → Bool) (i : ℕ) → i < 64 → eqb (get_or (marks_of test) i 0) 1 ≡ test i
 unfolding marks_of
-mark_at test i h = ap (λ (m : ℕ). eqb m 1) (get_d_tabulate 64 (λ j. mark_of (test j)) i 0 h) ∙ is_mark (test i)
+mark_at test i h = ap (λ (m : ℕ). eqb m 1) (get_or_tabulate 64 (λ j. mark_of (test j)) i 0 h) ∙ is_mark (test i)
 
 -- the test by places agrees with the names on the pad's live tickets
 abbrev pub Agrees : Tables → ℕ → (ℕ → Bool) → (Name → Bool) → Type 0

@@ -14,7 +14,7 @@ use Rattle.tables.specs.declared.Kind.TheVariants.{Free, Taken, Received, Child,
 use Rattle.tables.specs.Names.{eq_name, is_none}
 use Rattle.tables.specs.Lookup.{Sized, lookup}
 use Rattle.tables.specs.Chains.{parent_by, parent_of, reaches}
-use Rattle.tables.proofs.NameLaws.{eqName-false}
+use Rattle.tables.proofs.NameLaws.{eq_name_false}
 use Rattle.image_places.specs.Walk.{parent_at, has_parent, leads_to}
 use Rattle.image_pads.specs.Places.{numbers_of, place_in, up_by, up_of, ups_of}
 use Rattle.image_pads.proofs.Places.{place_none}
@@ -125,7 +125,7 @@ module _ (t : Tables) (z : Sized t) (link : Linked t) (a : ℕ) (low : a < 4) wh
   Missed x = (m : Name) → Away m → eq_name m x ≡ false
 
   pub name_missed : (x : Name) → x.pad ≡ a → Missed x
-  name_missed x e m h = eqName-false m x (λ q. h.pad (ap (λ (y : Name). y.pad) q ∙ e))
+  name_missed x e m h = eq_name_false m x (λ q. h.pad (ap (λ (y : Name). y.pad) q ∙ e))
 
   pub far : (left : ℕ) (n : Name) → Away n → (x : Name) → Missed x → reaches left (parent_of (lookup t)) n x ≡ false
   unfolding reaches

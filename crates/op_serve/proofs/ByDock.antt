@@ -10,7 +10,7 @@ use Rattle.tables.specs.Names.{eq_name}
 use Rattle.tables.specs.Lookup.{lookup}
 use Rattle.tables.specs.Chains.{own_name, at_or_under}
 use Rattle.tables.proofs.KindLaws.{grant_of, grant_recall}
-use Rattle.tables.proofs.NameLaws.{eqName-true}
+use Rattle.tables.proofs.NameLaws.{eq_name_true}
 use Rattle.preservation.specs.InOrder.{InOrder}
 use Rattle.preservation.proofs.ChainSteps.{head_is_dock, dock_head}
 use Rattle.preservation.proofs.ByDock.{grant_by_dock, dock_pad, recall_by_dock}
@@ -23,7 +23,7 @@ module _ (t : Tables) (ok : InOrder t) where
     where
       go : Case (eq_name d h) → eq_name d h ≡ (eqb n.pad h.pad && eq_name d h)
       go (fail z) = rw z (sym (and_false (eqb n.pad h.pad)))
-      go (pass z) = rw (eq-eqb n.pad h.pad (sym e ∙ ap (λ (m : Name). m.pad) (eqName-true d h z)))
+      go (pass z) = rw (eq-eqb n.pad h.pad (sym e ∙ ap (λ (m : Name). m.pad) (eq_name_true d h z)))
 
   docked_grant : (h n : Name) → is_grant (lookup t n).kind ≡ true → docked_to t h n ≡ eq_name (lookup t n).dock h
   unfolding docked_to docked_by

@@ -10,7 +10,7 @@ use lib.Dec.{ltb}
 use lib.ListN.{length, get_or}
 use borrow.Author.Tests.{ltb-true, lt-ltb, le-ltb, ne_eqb}
 use Rattle.lists.proofs.Tests.{and_l, and_r, and_intro, no_true, implies_intro, implies_elim, both_ways, cannot_pass}
-use Rattle.lists.proofs.Everywhere.{allAt-intro, allAt-elim}
+use Rattle.lists.proofs.Everywhere.{all_at_intro, all_at_elim}
 use Rattle.tables.specs.declared.{Name.Name, Ticket.Ticket, Tables.Tables}
 use Rattle.tables.specs.Names.{no_name, is_none, free}
 use Rattle.tables.specs.Lookup.{lookup}
@@ -67,7 +67,7 @@ module _ (t : Tables) (tickets : List Ticket) (lasts numbers : List ℕ) (flat :
   pub parents_say : children_ok tickets numbers ≡ true → Parents
   unfolding children_ok child_ok
   parents_say e p h c =
-      let at = allAt-elim free (child_ok tickets numbers) tickets e p (omega (arith, h, flat.long)) in
+      let at = all_at_elim free (child_ok tickets numbers) tickets e p (omega (arith, h, flat.long)) in
       let at' : child_ok tickets numbers p (ticket p) ≡ true = subst (λ (k : Ticket). child_ok tickets numbers p k ≡ true) (flat.same p h) at in
       let q = place_in numbers (ticket p).other in
       let both = implies_elim (is_child (ticket p).kind) (ltb q 256 && parent_ok (name p) (ticket p) (get_or tickets q free)) at' c in
@@ -80,7 +80,7 @@ module _ (t : Tables) (tickets : List Ticket) (lasts numbers : List ℕ) (flat :
   parents_test : Parents → children_ok tickets numbers ≡ true
   unfolding children_ok child_ok
   parents_test h =
-      allAt-intro free (child_ok tickets numbers) tickets
+      all_at_intro free (child_ok tickets numbers) tickets
       (λ p b. let b' : p < 256 = subst (λ (m : ℕ). p < m) flat.long b in
       subst (λ (k : Ticket). child_ok tickets numbers p k ≡ true) (sym (flat.same p b'))
       (implies_intro (is_child (ticket p).kind) _ (λ c. at p (h p b' c))))
@@ -173,12 +173,12 @@ module _ (t : Tables) (tickets : List Ticket) (lasts numbers : List ℕ) (flat :
     heads_say : heads_ok tickets up ≡ true → (p : ℕ) → p < 256 → headed up p (ticket p) ≡ true
     unfolding heads_ok
     heads_say e p h =
-        subst (λ (k : Ticket). headed up p k ≡ true) (flat.same p h) (allAt-elim free (headed up) tickets e p (omega (arith, h, flat.long)))
+        subst (λ (k : Ticket). headed up p k ≡ true) (flat.same p h) (all_at_elim free (headed up) tickets e p (omega (arith, h, flat.long)))
 
     heads_from : ((p : ℕ) → p < 256 → headed up p (ticket p) ≡ true) → heads_ok tickets up ≡ true
     unfolding heads_ok
     heads_from h =
-        allAt-intro free (headed up) tickets
+        all_at_intro free (headed up) tickets
         (λ p b. let b' : p < 256 = subst (λ (m : ℕ). p < m) flat.long b in subst (λ (k : Ticket). headed up p k ≡ true) (sym (flat.same p b')) (h p b'))
 
     child_ok_lem : (p : ℕ) → p < 256 → is_child (ticket p).kind ≡ true → ltb (end_from 64 up p) 256 ≡ true → order.child_ok t (name p) (ticket p) ≡ true

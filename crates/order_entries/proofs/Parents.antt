@@ -11,7 +11,7 @@ use borrow.Author.Tests.{lt-ltb, le-ltb, ltb-true, ltb-false}
 use Rattle.lists.specs.Tests.{implies}
 use Rattle.lists.specs.Lists.{all, all_at}
 use Rattle.lists.proofs.Tests.{Case, pass, fail, case, no_true, and_l, and_r, and_intro, both_ways, not_test, implies_intro, implies_elim}
-use Rattle.lists.proofs.Everywhere.{all_intro, all_elim, allAt-intro, allAt-elim}
+use Rattle.lists.proofs.Everywhere.{all_intro, all_elim, all_at_intro, all_at_elim}
 use Rattle.lists.proofs.Reading.{any_default}
 use Rattle.tables.specs.declared.{Name.Name, Entry.Entry, Tables.Tables}
 use Rattle.tables.specs.Names.{no_name, is_none, is_program, no_entry}
@@ -169,10 +169,10 @@ module _ (t : Tables) (numbers notes : List ℕ) (ix : Numbered t numbers) (note
         to a =
             all_intro no_entry rooted t.entries
             (λ i h. implies_intro (entry_at t i).live _
-            (λ l. sym (walk 256 i (omega (arith, long, h)) l) ∙ allAt-elim 0 ends up a i (omega (arith, long, ups_long, h))))
+            (λ l. sym (walk 256 i (omega (arith, long, h)) l) ∙ all_at_elim 0 ends up a i (omega (arith, long, ups_long, h))))
 
         from : all rooted t.entries ≡ true → all_at ends 0 up ≡ true
-        from a = allAt-intro 0 ends up (λ i h. at i (omega (arith, ups_long, h)) (case (entry_at t i).live))
+        from a = all_at_intro 0 ends up (λ i h. at i (omega (arith, ups_long, h)) (case (entry_at t i).live))
           where
             at : (i : ℕ) → i < 256 → Case (entry_at t i).live → ltb (end_from 256 up i) 256 ≡ true
             at i h (pass l) =

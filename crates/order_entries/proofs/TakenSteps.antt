@@ -13,7 +13,7 @@ use Rattle.tables.specs.declared.Ticket.{Ticket}
 use Rattle.tables.specs.Kinds.{is_taken}
 use Rattle.tables.specs.Names.{free}
 use Rattle.order_lists.specs.Listing.{TicketsListed}
-use Rattle.order_lists.proofs.Laws.{listed-allAt, listed_broken}
+use Rattle.order_lists.proofs.Laws.{listed_all_at, listed_broken}
 use Rattle.order_entries.specs.Order.{has_note, taken_noted}
 
 module _ (notes : List ℕ) (p : ℕ) (k : Ticket) where
@@ -48,6 +48,6 @@ module _ (notes : List ℕ) (long : length notes ≡ 256) (places : List ℕ) (t
   unfolding taken_noted
   taken_all h =
       sym
-      (listed-allAt free (λ k. is_taken k.kind) tickets 256 places (length places) listing (has_note notes) all
+      (listed_all_at free (λ k. is_taken k.kind) tickets 256 places (length places) listing (has_note notes) all
       (λ j b. taken_noted_lem notes (get_or places j 0) (get_or tickets (get_or places j 0) free) (listing.passes j b) (there j b) (h j b))
       (λ p k. not_taken notes p k))

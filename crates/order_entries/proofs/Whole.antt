@@ -11,7 +11,7 @@ use borrow.Author.Tests.{eqb-true, eqb-false, leb-true, lt-ltb, le-ltb}
 use Rattle.lists.specs.Tests.{implies}
 use Rattle.lists.specs.Lists.{all, all_at}
 use Rattle.lists.proofs.Tests.{Case, pass, fail, case, no_true, contradiction, cannot_pass, both_ways, and_l, and_r, and_intro, and_false, implies_intro, implies_elim}
-use Rattle.lists.proofs.Everywhere.{all_intro, all_elim, allAt-intro, allAt-elim}
+use Rattle.lists.proofs.Everywhere.{all_intro, all_elim, all_at_intro, all_at_elim}
 use Rattle.tables.specs.declared.{Ticket.Ticket, Entry.Entry, Tables.Tables}
 use Rattle.tables.specs.Names.{free, no_entry}
 use Rattle.tables.specs.Lookup.{lookup, entry_of}
@@ -140,11 +140,11 @@ module _ (t : Tables) (tickets : List Ticket) (lasts : List ℕ) (flat : Flatten
           placed_every t ix.sized is_taken (λ n k. (entry_of t n).live)
           (λ p h k. its_entry p h k
           ∙ implies_elim (is_taken (placed t p).kind) (ltb (get_or notes p 256) 256)
-          (ap (λ (x : Ticket). has_note notes p x) (sym (flat.same p h)) ∙ allAt-elim free (has_note notes) tickets a p (omega (arith, flat.long, h))) k)
+          (ap (λ (x : Ticket). has_note notes p x) (sym (flat.same p h)) ∙ all_at_elim free (has_note notes) tickets a p (omega (arith, flat.long, h))) k)
 
       from : taken_ok t ≡ true → all_at (has_note notes) 0 tickets ≡ true
       from a =
-          allAt-intro free (has_note notes) tickets
+          all_at_intro free (has_note notes) tickets
           (λ p b. let h : p < 256 = omega (arith, flat.long, b) in
           ap (λ (x : Ticket). has_note notes p x) (flat.same p h)
           ∙ implies_intro (is_taken (placed t p).kind) (ltb (get_or notes p 256) 256)

@@ -14,7 +14,7 @@ use borrow.Author.Count.{below_more}
 use borrow.Author.Tests.{eqb-true, eqb-false, lt-ltb, le-ltb, ltb-true, ltb-false}
 use Rattle.lists.specs.Lists.{all_at}
 use Rattle.lists.proofs.Tests.{Case, pass, fail, case, no_true, cannot_pass}
-use Rattle.lists.proofs.Everywhere.{allAt-intro, allAt-elim}
+use Rattle.lists.proofs.Everywhere.{all_at_intro, all_at_elim}
 use Rattle.lists.proofs.Pigeonhole.{pigeonhole}
 use Rattle.image_places.specs.Walk.{end_from}
 use Rattle.order_entry_chains.specs.Ends.{Ends, stop, link, Ended, Loose, Cut, Settled, LinksListed, all_end}
@@ -224,7 +224,7 @@ module _ (first places : List ℕ) (i : ℕ) (up : List ℕ) (w : Walked first p
 
         bad : all_at ends 0 first ≡ true → ⊥
         bad a =
-            let l = ltb-true (end_from 256 first at) 256 (allAt-elim 0 ends first a at (omega (arith, long, h))) in
+            let l = ltb-true (end_from 256 first at) 256 (all_at_elim 0 ends first a at (omega (arith, long, h))) in
             let e = came first 256 at (omega (arith, l, long)) in
             let t = still_ends first up w.cut e.ends in
             let m = s.endless q t.links t.ends in
@@ -244,7 +244,7 @@ module _ (first places : List ℕ) (i : ℕ) (up : List ℕ) (w : Walked first p
 
   pub walked_all : true ≡ all_end first
   unfolding all_end
-  walked_all = sym (allAt-intro 0 ends first (λ j b. lt-ltb (end_from 256 first j) 256 (at j b)))
+  walked_all = sym (all_at_intro 0 ends first (λ j b. lt-ltb (end_from 256 first j) 256 (at j b)))
     where
       ends : ℕ → ℕ → Bool
       ends j next = ltb (end_from 256 first j) 256

@@ -11,13 +11,13 @@ use borrow.Author.Tests.{ltb-true, ltb-false, eqb-true, eqb-false}
 use Rattle.lists.specs.Tests.{implies}
 use Rattle.lists.specs.Lists.{all, no_two}
 use Rattle.lists.proofs.Tests.{Case, pass, fail, case, cannot_pass, both_ways, and_l, and_r, implies_elim}
-use Rattle.lists.proofs.Everywhere.{all_elim, noTwo-intro, noTwo-elim}
+use Rattle.lists.proofs.Everywhere.{all_elim, no_two_intro, no_two_elim}
 use Rattle.lists.proofs.Keyed.{nothing_found}
 use Rattle.tables.specs.declared.{Name.Name, Ticket.Ticket, Entry.Entry, Tables.Tables}
 use Rattle.tables.specs.Names.{no_name, eq_name, free, no_entry}
 use Rattle.tables.specs.Lookup.{tickets_of, lookup}
 use Rattle.tables.specs.Order.{every_entry, entry_names_ok, under_store, grant_ok}
-use Rattle.tables.proofs.NameLaws.{eqName-false, eqName-ne}
+use Rattle.tables.proofs.NameLaws.{eq_name_false, eq_name_ne}
 use Rattle.tables.proofs.KindLaws.{live_head, taken_head, received_head}
 use Rattle.tables.proofs.Keys.{ticket_keys, ticket_laws, lookup_keyed}
 use Rattle.image_places.specs.Places.{name_at, placed, place_in, Flattened, Numbered}
@@ -109,15 +109,15 @@ module _ (t : Tables) (numbers : List ℕ) (ix : Numbered t numbers) where
 
         to : no_two live one_place t.entries ≡ true → no_two live one_name t.entries ≡ true
         to e =
-            noTwo-intro no_entry live one_name t.entries
-            (λ i j p q l m. eqName-false (entry_at t i).name (entry_at t j).name
+            no_two_intro no_entry live one_name t.entries
+            (λ i j p q l m. eq_name_false (entry_at t i).name (entry_at t j).name
             (λ n. eqb-false (place_of numbers (entry_at t i)) (place_of numbers (entry_at t j))
-            (noTwo-elim no_entry live one_place t.entries e i j p q l m) (ap (place_in numbers) n)))
+            (no_two_elim no_entry live one_place t.entries e i j p q l m) (ap (place_in numbers) n)))
 
         from : no_two live one_name t.entries ≡ true → no_two live one_place t.entries ≡ true
         from e =
-            noTwo-intro no_entry live one_place t.entries
+            no_two_intro no_entry live one_place t.entries
             (λ i j p q l m. cannot_pass (one_place (entry_at t i) (entry_at t j))
-            (λ n. eqName-ne (entry_at t i).name (entry_at t j).name (noTwo-elim no_entry live one_name t.entries e i j p q l m)
+            (λ n. eq_name_ne (entry_at t i).name (entry_at t j).name (no_two_elim no_entry live one_name t.entries e i j p q l m)
             (one_name_lem (entry_at t i).name (entry_at t j).name (has_place_lem i (omega arith) l)
             (eqb-true (place_of numbers (entry_at t i)) (place_of numbers (entry_at t j)) n))))

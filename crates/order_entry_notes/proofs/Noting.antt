@@ -13,7 +13,7 @@ use borrow.Author.Tests.{eqb-true, eqb-false, eq-eqb}
 use borrow.Author.Count.{below_more}
 use Rattle.lists.specs.Tests.{implies}
 use Rattle.lists.proofs.Tests.{Case, pass, fail, case, contradiction, cannot_pass, cannot_fail, and_l, and_r, and_intro, implies_intro, implies_elim, and_false}
-use Rattle.lists.proofs.Everywhere.{all_intro, all_elim, noTwo-intro, noTwo-elim}
+use Rattle.lists.proofs.Everywhere.{all_intro, all_elim, no_two_intro, no_two_elim}
 use Rattle.lists.proofs.Reading.{same_all}
 use Rattle.tables.specs.declared.{Ticket.Ticket, Entry.Entry}
 use Rattle.tables.specs.Names.{no_name, eq_name, free, no_entry}
@@ -132,7 +132,7 @@ module _ (tickets : List Ticket) (numbers : List ℕ) (es : List Entry) where
           two : (every_live has es && names_apart numbers es) ≡ true → ⊥
           two e =
               contradiction (eq-eqb (place_of numbers (at (get_or notes p 256))) (place_of numbers (at i)) (first.place ∙ here))
-              (noTwo-elim no_entry (λ x. x.live) (λ x y. eqb (place_of numbers x) (place_of numbers y)) es (and_r (every_live has es) (names_apart numbers es) e)
+              (no_two_elim no_entry (λ x. x.live) (λ x y. eqb (place_of numbers x) (place_of numbers y)) es (and_r (every_live has es) (names_apart numbers es) e)
               (get_or notes p 256) i first.low h first.live live)
 
       module _ (small : i < 256) (low : p < 256) (grant : has read ≡ true) (none : 256 ≤ get_or notes p 256) where
@@ -180,7 +180,7 @@ module _ (tickets : List Ticket) (numbers : List ℕ) (es : List Entry) where
   unfolding names_apart
   noted_end i notes h so =
       and_intro (all_intro no_entry (λ x. implies x.live (has x)) es (λ j b. implies_intro (at j).live (has (at j)) (so.grants j (omega arith))))
-      (noTwo-intro no_entry (λ x. x.live) (λ x y. eqb (place_of numbers x) (place_of numbers y)) es
+      (no_two_intro no_entry (λ x. x.live) (λ x y. eqb (place_of numbers x) (place_of numbers y)) es
       (λ j k p q l m. cannot_pass (eqb (place_of numbers (at j)) (place_of numbers (at k))) (two j k p (omega arith) l m)))
     where
       two : (j k : ℕ) → j < k → k < i → (at j).live ≡ true → (at k).live ≡ true → eqb (place_of numbers (at j)) (place_of numbers (at k)) ≡ true → ⊥

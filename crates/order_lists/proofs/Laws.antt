@@ -13,8 +13,8 @@ use borrow.Author.Tests.{eqb-true, eqb-false}
 use Rattle.lists.specs.Lists.{all_at}
 use Rattle.lists.proofs.Tests.{Case, pass, fail, case}
 use Rattle.lists.proofs.Reading.{any_default, same_all}
-use Rattle.lists.proofs.Everywhere.{allAt-intro}
-use Rattle.lists.proofs.Loops.{allAt-broken}
+use Rattle.lists.proofs.Everywhere.{all_at_intro}
+use Rattle.lists.proofs.Loops.{all_at_broken}
 use Rattle.order_lists.specs.Listing.{Listing}
 
 module _ {A : Type 0} (d : A) (test : A → Bool) (xs : List A) (n : ℕ) (places : List ℕ) (count : ℕ) (listing : Listing d test xs n places count) where
@@ -36,14 +36,14 @@ module _ {A : Type 0} (d : A) (test : A → Bool) (xs : List A) (n : ℕ) (place
   none_listed z p b t = let s = listing.all p b t in omega (arith, s.low, z)
 
   module _ (f : ℕ → A → Bool) (long : length xs ≡ n) where
-    pub listed-allAt : ((j : ℕ) → j < count → f (get_or places j 0) (get_or xs (get_or places j 0) d) ≡ true)
+    pub listed_all_at : ((j : ℕ) → j < count → f (get_or places j 0) (get_or xs (get_or places j 0) d) ≡ true)
         → ((p : ℕ) (x : A) → test x ≡ false → f p x ≡ true) → all_at f 0 xs ≡ true
-    listed-allAt h other =
-        allAt-intro d f xs
+    listed_all_at h other =
+        all_at_intro d f xs
         (λ p b. listed_every (λ q. f q (get_or xs q d) ≡ true) h (λ q g t. other q (get_or xs q d) t) p (subst (λ (m : ℕ). p < m) long b))
 
     pub listed_broken : (j : ℕ) → j < count → f (get_or places j 0) (get_or xs (get_or places j 0) d) ≡ false → false ≡ all_at f 0 xs
-    listed_broken j h e = allAt-broken d f xs (get_or places j 0) (omega (arith, listing.low j h, long)) e
+    listed_broken j h e = all_at_broken d f xs (get_or places j 0) (omega (arith, listing.low j h, long)) e
 
   -- the listed places by themselves
   pub listed_front : count ≤ length places → Listing d test xs n (take count places) (length (take count places))

@@ -36,10 +36,10 @@ module _ (numbers : List ℕ) (k : Ticket) where
   key_recall e = rw e
 
 -- ---- the keys written one after the other
-pub getD-mapped : {A B : Type 0} (g : A → B) (l : List A) (i : ℕ) (d : A) (e : B) → i < length l → get_or (map g l) i e ≡ g (get_or l i d)
-getD-mapped g [] i d e h = absurd (omega arith)
-getD-mapped g (x ∷ xs) zero d e h = refl
-getD-mapped g (x ∷ xs) (suc i) d e h = getD-mapped g xs i d e (omega arith)
+pub get_or_mapped : {A B : Type 0} (g : A → B) (l : List A) (i : ℕ) (d : A) (e : B) → i < length l → get_or (map g l) i e ≡ g (get_or l i d)
+get_or_mapped g [] i d e h = absurd (omega arith)
+get_or_mapped g (x ∷ xs) zero d e h = refl
+get_or_mapped g (x ∷ xs) (suc i) d e h = get_or_mapped g xs i d e (omega arith)
 
 module _ (numbers : List ℕ) (ks : List Ticket) (recalls : List ℕ) where
   -- the first i listed keys stand
@@ -60,4 +60,4 @@ module _ (numbers : List ℕ) (ks : List Ticket) (recalls : List ℕ) where
         (λ p l.
         filled_end 256 256 (λ q. target_key numbers (get_or ks q free)) recalls free (λ k. is_recall k.kind) ks (length recalls) listing
         (λ q g r. sym (key_none numbers (get_or ks q free) r)) i keys h so p (omega (arith, so.long, l))
-        ∙ sym (getD-mapped (target_key numbers) ks p free 0 (omega (arith, so.long, long, l))))
+        ∙ sym (get_or_mapped (target_key numbers) ks p free 0 (omega (arith, so.long, long, l))))

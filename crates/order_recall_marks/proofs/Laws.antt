@@ -13,19 +13,19 @@ use borrow.Author.Tests.{not-true, ltb-true, ltb-false, lt-ltb, eqb-true, eq-eqb
 use Rattle.lists.specs.Tests.{implies}
 use Rattle.lists.specs.Lists.{all, some, no_two}
 use Rattle.lists.proofs.Tests.{Case, pass, fail, case, contradiction, both_ways, not_test, and_l, and_r, and_intro, implies_intro, implies_elim}
-use Rattle.lists.proofs.Everywhere.{all_intro, all_elim, some_intro, some_elim, noTwo-intro, noTwo-elim}
+use Rattle.lists.proofs.Everywhere.{all_intro, all_elim, some_intro, some_elim, no_two_intro, no_two_elim}
 use Rattle.tables.specs.declared.{Name.Name, Ticket.Ticket, Entry.Entry, Tables.Tables}
 use Rattle.tables.specs.Names.{free, no_entry, eq_name}
 use Rattle.tables.specs.Order.{every_ticket, every_entry, under_store, is_recalled}
 use Rattle.tables.proofs.KindLaws.{live_child, live_recall}
-use Rattle.tables.proofs.NameLaws.{name_eq, eqName-true, eqName-test}
+use Rattle.tables.proofs.NameLaws.{name_eq, eq_name_true, eq_name_test}
 use Rattle.tables.proofs.Fits.{NameFits}
 use Rattle.image_places.specs.Places.{placed, name_at, place_in, Flattened, Numbered}
 use Rattle.image_places.proofs.Laws.{every_placed, placed_every, some_placed, placed_some, place_found, name_place}
 use Rattle.order_lists.specs.Listing.{Source, TicketsListed, ReceivedListed, is_hung}
 use Rattle.order_lists.proofs.Laws.{listed_all}
 use Rattle.order_recall_marks.specs.Keys.{key_of, target_key, is_place, is_dead, KeysListed, is_marked}
-use Rattle.order_recall_marks.proofs.KeySteps.{dead_key, key_place, key_dead, key_none, key_recall, getD-mapped}
+use Rattle.order_recall_marks.proofs.KeySteps.{dead_key, key_place, key_dead, key_none, key_recall, get_or_mapped}
 use Rattle.tables.specs.Kinds.{is_live, is_child, is_recall}
 
 -- T6's tests of two tickets: no other recall has k's target; some recall has the target n
@@ -97,7 +97,7 @@ module _ (numbers : List ℕ) (k : Ticket) where
 -- the key at a place is its ticket's
 pub key_written : (numbers keys : List ℕ) (ks : List Ticket) → keys ≡ map (target_key numbers) ks → (i : ℕ) → i < length ks
     → get_or keys i 0 ≡ target_key numbers (get_or ks i free)
-key_written numbers keys ks e i h = ap (λ (l : List ℕ). get_or l i 0) e ∙ getD-mapped (target_key numbers) ks i free 0 h
+key_written numbers keys ks e i h = ap (λ (l : List ℕ). get_or l i 0) e ∙ get_or_mapped (target_key numbers) ks i free 0 h
 
 -- the places that have a key are those of the recalls
 pub keys_listed : (numbers keys : List ℕ) (ks : List Ticket) (recalls : List ℕ) → keys ≡ map (target_key numbers) ks → length ks ≡ 256
@@ -115,7 +115,7 @@ keys_listed numbers keys ks recalls e long listing = record {
 }
   where
     here : (p : ℕ) → p < 256 → get_or keys p 256 ≡ target_key numbers (get_or ks p free)
-    here p h = ap (λ (l : List ℕ). get_or l p 256) e ∙ getD-mapped (target_key numbers) ks p free 256 (omega (arith, long, h))
+    here p h = ap (λ (l : List ℕ). get_or l p 256) e ∙ get_or_mapped (target_key numbers) ks p free 256 (omega (arith, long, h))
 
 module _ (t : Tables) (numbers : List ℕ) (ix : Numbered t numbers) where
   -- a place has one name
@@ -169,7 +169,7 @@ module _ (t : Tables) (ks : List Ticket) (lasts numbers : List ℕ) (flat : Flat
     -- where it holds, no key stands twice
     pub once_keys : (counts : ℕ → Bool) → counts 256 ≡ false → every_ticket is_recall (one_recall t) t ≡ true → no_two counts eqb keys ≡ true
     once_keys counts none e =
-        noTwo-intro 0 counts eqb keys
+        no_two_intro 0 counts eqb keys
         (λ a b l h c d. ne_eqb (get_or keys a 0) (get_or keys b 0)
         (two a b l (subst (λ (m : ℕ). b < m) keys_long h) (λ z. contradiction (subst (λ (x : ℕ). counts x ≡ true) z c) none)))
       where
@@ -182,7 +182,7 @@ module _ (t : Tables) (ks : List Ticket) (lasts numbers : List ℕ) (flat : Flat
             let o = every_placed t ix.sized is_recall (one_recall t) e a g ra in
             let w = every_placed t ix.sized is_recall (λ m other. implies (eq_name other.other (placed t a).other) (eq_name m n)) o b h rb in
             let m = name_at b (placed t b) in
-            let q : m ≡ n = eqName-true m n (implies_elim (eq_name (placed t b).other (placed t a).other) (eq_name m n) w (eqName-test _ _ (alike a b g h ne s))) in
+            let q : m ≡ n = eq_name_true m n (implies_elim (eq_name (placed t b).other (placed t a).other) (eq_name m n) w (eq_name_test _ _ (alike a b g h ne s))) in
             let x = name_place t numbers ix a g (live_recall (placed t a).kind ra) in
             let y = name_place t numbers ix b h (live_recall (placed t b).kind rb) in
             let z : place_in numbers m ≡ place_in numbers n = ap (place_in numbers) q in
@@ -193,7 +193,7 @@ module _ (t : Tables) (ks : List Ticket) (lasts numbers : List ℕ) (flat : Flat
     keys_once low high =
         placed_every t ix.sized is_recall (one_recall t)
         (λ p h r. placed_every t ix.sized is_recall (λ m other. implies (eq_name other.other (placed t p).other) (eq_name m (name_at p (placed t p))))
-        (λ q g s. implies_intro (eq_name (placed t q).other (placed t p).other) _ (λ e. eqName-test _ _ (ap (λ (x : ℕ). name_at x (placed t x)) (same p q h g r s (eqName-true _ _ e))))))
+        (λ q g s. implies_intro (eq_name (placed t q).other (placed t p).other) _ (λ e. eq_name_test _ _ (ap (λ (x : ℕ). name_at x (placed t x)) (same p q h g r s (eq_name_true _ _ e))))))
       where
         key_equal : (p q : ℕ) → p < 256 → q < 256 → is_recall (placed t p).kind ≡ true → is_recall (placed t q).kind ≡ true
             → (placed t q).other ≡ (placed t p).other → get_or keys q 0 ≡ get_or keys p 0
@@ -205,7 +205,7 @@ module _ (t : Tables) (ks : List Ticket) (lasts numbers : List ℕ) (flat : Flat
             → counts (get_or keys q 0) ≡ true → get_or keys q 0 ≡ get_or keys p 0 → ⊥
         apart counts once p q l h c e =
             contradiction (eq-eqb (get_or keys p 0) (get_or keys q 0) (sym e))
-            (noTwo-elim 0 counts eqb keys once p q l (subst (λ (m : ℕ). q < m) (sym keys_long) h) (subst (λ (x : ℕ). counts x ≡ true) e c) c)
+            (no_two_elim 0 counts eqb keys once p q l (subst (λ (m : ℕ). q < m) (sym keys_long) h) (subst (λ (x : ℕ). counts x ≡ true) e c) c)
 
         clash : (p q : ℕ) → p < q → q < 256 → is_recall (placed t q).kind ≡ true → get_or keys q 0 ≡ get_or keys p 0 → ⊥
         clash p q l h r e = go (case (ltb (get_or keys q 0) 256))
@@ -237,14 +237,14 @@ module _ (t : Tables) (ks : List Ticket) (lasts numbers : List ℕ) (flat : Flat
       let n = name_at p (placed t p) in
       let x : n ≡ k.other = subst (λ (q : ℕ). name_at q (placed t q) ≡ k.other) y (place_found t numbers ix k.other (omega (arith, y, h))).name in
       some_placed t ix.sized is_recall (λ m recall. eq_name recall.other n) w.place g
-      (recall_at w.place g (λ v. omega (arith, v, s, h))) (eqName-test k.other n (sym x))
+      (recall_at w.place g (λ v. omega (arith, v, s, h))) (eq_name_test k.other n (sym x))
 
   recalls_key : (p : ℕ) → p < 256 → is_live (placed t p).kind ≡ true → has_recall t (name_at p (placed t p)) (placed t p) ≡ true → some (λ key. eqb key p) keys ≡ true
   recalls_key p h l e =
       let n = name_at p (placed t p) in
       let w = placed_some t ix.sized is_recall (λ m recall. eq_name recall.other n) e in
       let k = placed t w.at in
-      let x : k.other ≡ n = eqName-true k.other n w.passes in
+      let x : k.other ≡ n = eq_name_true k.other n w.passes in
       let y : place_in numbers k.other ≡ p = ap (place_in numbers) x ∙ name_place t numbers ix p h l in
       let z : get_or keys w.at 0 ≡ p
       = key_at_lem w.at w.low ∙ sym (key_recall numbers k w.kind) ∙ sym (key_place (place_in numbers k.other) k.other (omega (arith, y, h))) ∙ y in

@@ -14,7 +14,7 @@ use borrow.Author.Count.{below_more}
 use borrow.Author.Tests.{ltb-true, ltb-false, lt-ltb, eqb-true, eqb-false, eq-eqb, ne_eqb}
 use Rattle.lists.specs.Lists.{some, no_two}
 use Rattle.lists.proofs.Tests.{Case, pass, fail, case, no_true, contradiction, cannot_pass, both_ways, not_test, or_left, or_right}
-use Rattle.lists.proofs.Everywhere.{some_intro, some_elim, noTwo-intro, noTwo-elim}
+use Rattle.lists.proofs.Everywhere.{some_intro, some_elim, no_two_intro, no_two_elim}
 use Rattle.lists.proofs.Reading.{any_default}
 use Rattle.order_lists.specs.Listing.{Spot}
 use Rattle.order_recall_marks.specs.Keys.{is_place, is_dead, KeysListed, Marked}
@@ -96,7 +96,7 @@ module _ (keys places : List ℕ) where
 
     module _ (long : length keys ≡ 256) (listing : KeysListed keys places) where
       apart_end : counts 256 ≡ false → (i : ℕ) → length places ≤ i → Apart i → no_two counts eqb keys ≡ true
-      apart_end none i h apart = noTwo-intro 0 counts eqb keys two
+      apart_end none i h apart = no_two_intro 0 counts eqb keys two
         where
           counted : (p : ℕ) → p < length keys → counts (get_or keys p 0) ≡ true → Spot places (length places) p
           counted p g c =
@@ -120,7 +120,7 @@ module _ (keys places : List ℕ) where
           twice : no_two counts eqb keys ≡ true → ⊥
           twice e =
               contradiction (eq-eqb (key b.at) (key i) b.here)
-              (noTwo-elim 0 counts eqb keys e (get_or places b.at 0) (get_or places i 0) (listing.rising b.at i b.low h)
+              (no_two_elim 0 counts eqb keys e (get_or places b.at 0) (get_or places i 0) (listing.rising b.at i b.low h)
               (omega (arith, long, listing.low i h)) (subst (λ (x : ℕ). counts x ≡ true) (sym b.here) c) c)
 
   -- ---- the marks: 1 at the places among the keys, 0 elsewhere

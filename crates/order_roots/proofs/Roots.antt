@@ -10,7 +10,7 @@ use lib.ListN.{length, get_or, replicate}
 use borrow.Author.Tests.{eqb-true, eqb-false, leb-true, leb-false, le-leb, ltb-true, ltb-false, not-false}
 use Rattle.lists.specs.Lists.{no_two}
 use Rattle.lists.proofs.Tests.{Case, pass, fail, case, no_true, cannot_pass, cannot_fail, and_intro, and_l, and_r, or_false_l, or_false_r}
-use Rattle.lists.proofs.Everywhere.{noTwo-intro, noTwo-elim}
+use Rattle.lists.proofs.Everywhere.{no_two_intro, no_two_elim}
 use Rattle.lists.proofs.Reading.{same_all}
 use Rattle.tables.specs.declared.Entry.{Entry}
 use Rattle.tables.specs.Names.{no_entry}
@@ -196,7 +196,7 @@ module _ (es : List Entry) (places : List ℕ) where
               let s = f + sh.at in
               let o = w.owner s sh.marked in
               let b : o.place < length places = omega (arith, o.low, low) in
-              let n = noTwo-elim no_entry is_root shares es e (get_or places o.place 0) (get_or places i 0) (listing.rising o.place i o.low low)
+              let n = no_two_elim no_entry is_root shares es e (get_or places o.place 0) (get_or places i 0) (listing.rising o.place i o.low low)
               (omega (arith, listing.low i low, long)) (listing.passes o.place b) (listing.passes i low) in
               let b = sh.low in
               apart_none (at o.place).first (at o.place).count f c s (not-false _ n) o.has.from o.has.to (omega arith) (omega arith)
@@ -205,7 +205,7 @@ module _ (es : List Entry) (places : List ℕ) where
     unfolding roots_in
     swept_end long i marks h w =
         sym
-        (noTwo-intro no_entry is_root shares es
+        (no_two_intro no_entry is_root shares es
         (λ p q b l m n. two p q b (listing.all p (omega (arith, b, l, long)) m) (listing.all q (omega (arith, l, long)) n)))
       where
         two : (p q : ℕ) → p < q → Spot places (length places) p → Spot places (length places) q → shares (get_or es p no_entry) (get_or es q no_entry) ≡ false

@@ -10,7 +10,7 @@ use Rattle.tables.specs.Names.{eq_name}
 use Rattle.tables.specs.Lookup.{last_of, lookup, entry_of}
 use Rattle.tables.specs.Chains.{own_name, parent_of, at_or_under}
 use Rattle.tables.proofs.KindLaws.{live_grant, child_head, recall_head, grant_sort}
-use Rattle.tables.proofs.NameLaws.{eqName-false}
+use Rattle.tables.proofs.NameLaws.{eq_name_false}
 use Rattle.preservation.specs.Rules.{Ends, here, up}
 use Rattle.preservation.specs.InOrder.{InOrder}
 use Rattle.preservation.proofs.RuleFacts.{child_up, child_linked}
@@ -31,7 +31,7 @@ module _ (t : Tables) (ok : InOrder t) where
     at_a_child n c b =
         let up : parent_of (lookup t) n ≡ (lookup t n).other = child_up (lookup t) (entry_of t) (last_of t) ok.rules n c in
         let k = ok.rules.child n c in
-        let beside : eq_name n h ≡ false = eqName-false n h (λ e. child_head (lookup t n).kind c (rw e is)) in
+        let beside : eq_name n h ≡ false = eq_name_false n h (λ e. child_head (lookup t n).kind c (rw e is)) in
         let above : ByDock (lookup t n).other = subst ByDock up b in
         record {
           under = child_step t ok h n c ∙ rw beside (above.under ∙ ap (λ (m : Name). eq_name m h) (sym k.dock));
@@ -65,5 +65,5 @@ module _ (t : Tables) (ok : InOrder t) where
 
     pub recall_by_dock : (n : Name) → is_recall (lookup t n).kind ≡ true → at_or_under t h n ≡ eq_name (lookup t (own_name n (lookup t n))).dock h
     recall_by_dock n r =
-        let beside : eq_name n h ≡ false = eqName-false n h (λ e. recall_head (lookup t n).kind r (rw e is)) in
+        let beside : eq_name n h ≡ false = eq_name_false n h (λ e. recall_head (lookup t n).kind r (rw e is)) in
         recall_step t ok h n r ∙ rw beside (grant_by_dock (own_name n (lookup t n)) (ok.rules.recall n r).grant)

@@ -13,7 +13,7 @@ use Rattle.tables.specs.Lookup.{last_of, lookup, entry_of}
 use Rattle.tables.specs.Chains.{end_of, own_name, parent_of, at_or_under, chain_head, entry_parent, at_or_below}
 use Rattle.tables.specs.Order.{under_store}
 use Rattle.tables.proofs.KindLaws.{live_grant, live_child, live_recall, head_grant, child_head, recall_head, head_up, has_parent_lem, grant_sort, live_head}
-use Rattle.tables.proofs.NameLaws.{eqName-false}
+use Rattle.tables.proofs.NameLaws.{eq_name_false}
 use Rattle.tables.proofs.Links.{reaches_here, end_here, end_next}
 use Rattle.preservation.specs.Rules.{Span, Inside, Contains, EntryOk, Ends, here, up}
 use Rattle.preservation.specs.InOrder.{InOrder}
@@ -76,8 +76,8 @@ module _ (t : Tables) (ok : InOrder t) where
         → at_or_under t x (lookup t r).other ≡ at_or_under t x r
     pair_head hx r h p =
         let a : eq_name (lookup t r).other x ≡ false
-        = eqName-false (lookup t r).other x (λ e. child_head (lookup t (lookup t r).other).kind (ok.rules.near r h p).child (rw e hx)) in
-        let b : eq_name r x ≡ false = eqName-false r x (λ e. recall_head (lookup t r).kind h (rw e hx)) in
+        = eq_name_false (lookup t r).other x (λ e. child_head (lookup t (lookup t r).other).kind (ok.rules.near r h p).child (rw e hx)) in
+        let b : eq_name r x ≡ false = eq_name_false r x (λ e. recall_head (lookup t r).kind h (rw e hx)) in
         target_step r h p ∙ rw a (sym (recall_step r h ∙ rw b))
 
   -- ---- the head of a grant's chain

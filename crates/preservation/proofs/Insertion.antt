@@ -98,15 +98,15 @@ module _ (tickets tickets' : Name → Ticket) (entries entries' : Name → Entry
         let k : NearOk n (tickets n) (tickets (tickets n).other) = rules.near n r p in
         rw (inserted.tickets_kept (tickets n).other (live_child (tickets (tickets n).other).kind k.child)) k
 
-    old-farEntry : is_recall (tickets n).kind ≡ true → ((tickets n).other.pad ≡ n.pad → ⊥) → (entries' (tickets n).other).live ≡ true
+    old_far_entry : is_recall (tickets n).kind ≡ true → ((tickets n).other.pad ≡ n.pad → ⊥) → (entries' (tickets n).other).live ≡ true
         → FarOk (tickets' (own_name n (tickets n))) (entries' (tickets n).other)
-    old-farEntry r p h =
+    old_far_entry r p h =
         let h₀ : (entries (tickets n).other).live ≡ true = inserted.entries_fresh (tickets n).other (rules.far n r p) h in
         rw (recall_parent n r, inserted.entries_kept (tickets n).other h₀) (rules.far_entry n r p h₀)
 
     -- the target of an old recall was given before, so it is no new child
-    old-noFar : is_recall (tickets n).kind ≡ true → ((tickets n).other.pad ≡ n.pad → ⊥) → is_child (tickets' (tickets n).other).kind ≡ false
-    old-noFar r p =
+    old_no_far : is_recall (tickets n).kind ≡ true → ((tickets n).other.pad ≡ n.pad → ⊥) → is_child (tickets' (tickets n).other).kind ≡ false
+    old_no_far r p =
         cannot_pass (is_child (tickets' (tickets n).other).kind)
         (λ e.
         let l₀ = inserted.tickets_fresh (tickets n).other (rules.far n r p) (live_child (tickets' (tickets n).other).kind e) in
@@ -130,8 +130,8 @@ module _ (tickets tickets' : Name → Ticket) (entries entries' : Name → Entry
       recall = rw same λ r. rw (recall_parent n r) (rules.recall n r);
       near = rw same old_near;
       far = rw same λ r p. wider (tickets n).other (rules.far n r p);
-      far_entry = rw same old-farEntry;
-      no_far = rw same old-noFar;
+      far_entry = rw same old_far_entry;
+      no_far = rw same old_no_far;
       once = rw same λ r m s e. old_once r m s e (inserted.tickets_new m (live_recall (tickets' m).kind s));
     }
 

@@ -10,7 +10,7 @@ use Rattle.tables.specs.Lookup.{lookup, entry_of}
 use Rattle.tables.specs.Chains.{reaches, at_or_below}
 use Rattle.tables.specs.Order.{under_store}
 use Rattle.tables.proofs.KindLaws.{live_recall}
-use Rattle.tables.proofs.NameLaws.{eqName-refl}
+use Rattle.tables.proofs.NameLaws.{eq_name_refl}
 use Rattle.machine.specs.Recall.{lent_away}
 use Rattle.preservation.specs.InOrder.{InOrder}
 use Rattle.preservation.proofs.TestsByName.{SomeName, some_ticket_intro, some_ticket_elim}
@@ -19,7 +19,7 @@ use Rattle.preservation.proofs.ChainSteps.{entry_falls}
 -- an entry is at itself
 pub at_itself : (t : Tables) (x : Name) → at_or_below t x x ≡ true
 unfolding reaches
-at_itself t x = rw (eqName-refl x)
+at_itself t x = rw (eq_name_refl x)
 
 -- a recall of another pad's ticket that goes, at or below whose target the entry n is
 pub record LentFrom (t : Tables) (gone : Name → Bool) (n : Name) : Type 0 where

@@ -19,7 +19,7 @@ use Rattle.tables.specs.Chains.{own_name, entry_parent, chain_root}
 use Rattle.tables.specs.Sheets.{apart}
 use Rattle.tables.specs.Order.{is_recalled, numbers_ok, t1, span_ok, t2, parent_ok, child_ok, t3, t4, entry_names_ok, under_store, grant_ok, parent_entry_ok, entry_ok, roots_ok, t5, recall_parent_ok, is_child_of, far_target_ok, target_ok, recall_ok, t6, in_order}
 use Rattle.tables.proofs.KindLaws.{live_grant, live_child, live_recall, live_head, live_taken, child_grant}
-use Rattle.tables.proofs.NameLaws.{eqName-true, eqName-test, program_possible}
+use Rattle.tables.proofs.NameLaws.{eq_name_true, eq_name_test, program_possible}
 use Rattle.tables.proofs.Keys.{ticket_keys, entry_keys, ticket_laws, entry_laws}
 use Rattle.tables.proofs.ByPlace.{ticket_at}
 use Rattle.preservation.specs.Rules.{Given, ChildOk, RecallOk, NearOk, FarOk, Recalled, EntryOk, UnderOk}
@@ -37,7 +37,7 @@ unfolding parent_ok
 parent_test n k p c =
     and_intro (and_intro (and_intro (and_intro (and_intro c.grant (eq-eqb k.other.pad n.pad c.pad))
     (not_test (eqb k.other.program n.program) (ne_eqb k.other.program n.program c.program))) c.pass)
-    (inside_test _ _ _ _ _ _ c.inside)) (eqName-test k.dock p.dock c.dock)
+    (inside_test _ _ _ _ _ _ c.inside)) (eq_name_test k.dock p.dock c.dock)
 
 grant_test : (e : Entry) (k : Ticket) → EntryOk e k → grant_ok e k ≡ true
 unfolding grant_ok
@@ -46,7 +46,7 @@ grant_test e k o =
     (eq-eqb k.rights.bits e.rights.bits (ap (λ (r : Rights). r.bits) o.rights))
   where
     go : Case (under_store e) → cond (under_store e) (eq_name e.parent no_name && is_taken k.kind) (is_received k.kind) ≡ true
-    go (pass z) = rw z (and_intro (eqName-test e.parent no_name (o.store z)) (o.taken z))
+    go (pass z) = rw z (and_intro (eq_name_test e.parent no_name (o.store z)) (o.taken z))
     go (fail z) = rw z (o.received z)
 
 parent_entry_test : (e p : Entry) → UnderOk e p → parent_entry_ok e p ≡ true
@@ -59,7 +59,7 @@ unfolding far_target_ok
 far_test t x p e g f c =
     and_intro (and_intro (and_intro (program_possible x.pad x.program g.pad g.program) (between_test 1 _ x.number g.low g.high))
     (not_test (is_child (lookup t x).kind) c))
-    (implies_intro e.live _ (λ l. and_intro (eqName-test e.parent p.dock (f l).parent) (inside_test _ _ _ _ _ _ (f l).inside)))
+    (implies_intro e.live _ (λ l. and_intro (eq_name_test e.parent p.dock (f l).parent) (inside_test _ _ _ _ _ _ (f l).inside)))
 
 module _ (t : Tables) (ok : InOrder t) where
   -- ---- T1
@@ -102,7 +102,7 @@ module _ (t : Tables) (ok : InOrder t) where
   -- ---- T4
   t4_test : t4 t ≡ true
   unfolding t4
-  t4_test = every_ticket_intro t ok.shape is_head live_head (λ n k. eq_name k.dock n) (λ n h. eqName-test (lookup t n).dock n (ok.rules.dock n h))
+  t4_test = every_ticket_intro t ok.shape is_head live_head (λ n k. eq_name k.dock n) (λ n h. eq_name_test (lookup t n).dock n (ok.rules.dock n h))
 
   -- ---- T5
   entry_names_test : entry_names_ok t ≡ true
@@ -147,7 +147,7 @@ module _ (t : Tables) (ok : InOrder t) where
       go : Case (eqb (lookup t n).other.pad n.pad) → target_ok t n (lookup t n) ≡ true
       go (pass p) =
           let k : NearOk n (lookup t n) (lookup t (lookup t n).other) = ok.rules.near n h (eqb-true (lookup t n).other.pad n.pad p) in
-          rw p (and_intro k.child (eqName-test _ _ k.parent))
+          rw p (and_intro k.child (eq_name_test _ _ k.parent))
       go (fail p) =
           let away = eqb-false (lookup t n).other.pad n.pad p in
           rw p (far_test t (lookup t n).other (lookup t (own_name n (lookup t n))) (entry_of t (lookup t n).other) (ok.rules.far n h away) (ok.rules.far_entry n h away) (ok.rules.no_far n h away))
@@ -159,12 +159,12 @@ module _ (t : Tables) (ok : InOrder t) where
       and_intro (and_intro (and_intro c.grant c.pass) (target_test n h))
       (every_ticket_intro t ok.shape is_recall live_recall (λ m other. implies (eq_name other.other (lookup t n).other) (eq_name m n))
       (λ m k. implies_intro (eq_name (lookup t m).other (lookup t n).other) (eq_name m n)
-      (λ w. eqName-test m n (ok.rules.once m n k h (eqName-true (lookup t m).other (lookup t n).other w)))))
+      (λ w. eq_name_test m n (ok.rules.once m n k h (eq_name_true (lookup t m).other (lookup t n).other w)))))
 
   recalled_test : (n : Name) → Recalled (lookup t) n → is_recalled t n ≡ true
   recalled_test n r =
       some_ticket_intro t ok.shape.sized is_recall live_recall (λ m recall. eq_name recall.other n) r.by r.recall
-      (eqName-test (lookup t r.by).other n r.target)
+      (eq_name_test (lookup t r.by).other n r.target)
 
   lent_test : (n : Name) → (entry_of t n).live ≡ true → implies (not (under_store (entry_of t n))) (is_recalled t (entry_of t n).name) ≡ true
   lent_test n l =

@@ -16,7 +16,7 @@ use Rattle.tables.specs.Names.{eq_name, is_none, same_program}
 use Rattle.tables.specs.Lookup.{last_of, lookup, entry_of}
 use Rattle.tables.specs.Chains.{parent_by, parent_of, entry_parent}
 use Rattle.tables.proofs.KindLaws.{live_grant, live_child}
-use Rattle.tables.proofs.NameLaws.{eqName-true, eqName-ne, program_same, program_apart}
+use Rattle.tables.proofs.NameLaws.{eq_name_true, eq_name_ne, program_same, program_apart}
 use Rattle.machine.specs.declared.Request.{Request}
 use Rattle.machine.specs.State.{asked_name}
 use Rattle.machine.specs.Pass.{pass_tables}
@@ -91,11 +91,11 @@ module _ (t : Tables) (ok : InOrder t) (r : Request) (may : MayPass t r) where
         go (fail p) = past_given t ok y refl (rw e at (ok.rules.far m h (eqb-false (lookup t m).other.pad m.pad p)))
 
     once_x : (m : Name) → is_recall (lookup t' m).kind ≡ true → y ≡ (lookup t' m).other → Case (eq_name m x) → Case (eq_name m y) → x ≡ m
-    once_x m h e (pass p) _ = sym (eqName-true m x p)
+    once_x m h e (pass p) _ = sym (eq_name_true m x p)
     once_x m h e (fail p) (pass q) =
-        contradiction (ap (λ (z : Ticket). is_recall z.kind) (sym (ap (lookup t') (eqName-true m y q) ∙ effect.grant)) ∙ h) plain
+        contradiction (ap (λ (z : Ticket). is_recall z.kind) (sym (ap (lookup t') (eq_name_true m y q) ∙ effect.grant)) ∙ h) plain
     once_x m h e (fail p) (fail q) =
-        let s : lookup t' m ≡ lookup t m = effect.tickets m (eqName-ne m x p) (eqName-ne m y q) in
+        let s : lookup t' m ≡ lookup t m = effect.tickets m (eq_name_ne m x p) (eq_name_ne m y q) in
         absurd (old_target m (rw s at h) (ap (λ (z : Ticket). z.other) (sym s) ∙ sym e))
 
     -- the new recall keeps the rules, if its target does
@@ -140,9 +140,9 @@ module _ (t : Tables) (ok : InOrder t) (r : Request) (may : MayPass t r) where
       where
         new : (n : Name) → is_live (lookup t' n).kind ≡ true → Case (eq_name n x) → Case (eq_name n y)
             → (is_live (lookup t n).kind ≡ true) ⊎ NewTicket (lookup t') (entry_of t') (last_of t') n
-        new n l (pass h) _ = inr (rw (eqName-true n x h) new_x)
-        new n l (fail g) (pass h) = inr (rw (eqName-true n y h) new-y)
-        new n l (fail g) (fail h) = inl (rw (effect.tickets n (eqName-ne n x g) (eqName-ne n y h)) at l)
+        new n l (pass h) _ = inr (rw (eq_name_true n x h) new_x)
+        new n l (fail g) (pass h) = inr (rw (eq_name_true n y h) new-y)
+        new n l (fail g) (fail h) = inl (rw (effect.tickets n (eq_name_ne n x g) (eq_name_ne n y h)) at l)
 
   -- ---- on the same pad
   module _ (same : r.pad ≡ r.topad) where
@@ -262,8 +262,8 @@ module _ (t : Tables) (ok : InOrder t) (r : Request) (may : MayPass t r) where
     }
 
     new_entries : (n : Name) → (entry_of t' n).live ≡ true → Case (eq_name n y) → ((entry_of t n).live ≡ true) ⊎ NewEntry (lookup t') (entry_of t') n
-    new_entries n l (pass h) = inr (rw (eqName-true n y h) new_entry_y)
-    new_entries n l (fail h) = inl (rw (far.entries n (eqName-ne n y h)) at l)
+    new_entries n l (pass h) = inr (rw (eq_name_true n y h) new_entry_y)
+    new_entries n l (fail h) = inl (rw (far.entries n (eq_name_ne n y h)) at l)
 
     far_keeps : InOrder t'
     far_keeps =

@@ -13,7 +13,7 @@ use Rattle.lists.proofs.Tests.{cannot_fail, contradiction}
 use Rattle.lists.proofs.Search.{find_passes, some_first}
 use Rattle.lists.proofs.Everywhere.{some_intro}
 use Rattle.lists.proofs.Keyed.{found_low}
-use Rattle.lists.proofs.Pigeonhole.{none_left_out}
+use Rattle.lists.proofs.NoneLeftOut.{none_left_out}
 use Rattle.tables.specs.declared.{Name.Name, Ticket.Ticket, Entry.Entry, Tables.Tables}
 use Rattle.tables.specs.Names.{is_none, free, no_entry}
 use Rattle.tables.specs.Lookup.{tickets_of, last_of, has_number, ticket_in, lookup, place_of, is_named, entry_in, entry_of}

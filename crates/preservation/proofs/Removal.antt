@@ -131,20 +131,14 @@ module _ (tickets tickets' : Name → Ticket) (entries entries' : Name → Entry
       let r₀ : is_recall (tickets n).kind ≡ true = rw (recall_kept n r) at r in
       rw (recall_kept n r) (rw (recall_parent n (recall_stays n r) r₀) (rules.recall n r₀))
 
-  near_after : (n : Name) → is_recall (tickets' n).kind ≡ true → (tickets' n).other.pad ≡ n.pad → NearOk n (tickets' n) (tickets' (tickets' n).other)
-  near_after n r p =
-      let r₀ : is_recall (tickets n).kind ≡ true = rw (recall_kept n r) at r in
-      let p₀ : (tickets n).other.pad ≡ n.pad = rw (recall_kept n r) at p in
-      rw (recall_kept n r) (rw (ticket_same (tickets n).other (closure.pair n r₀ p₀ ∙ recall_stays n r)) (rules.near n r₀ p₀))
-
   far_after : (n : Name) → is_recall (tickets' n).kind ≡ true → ((tickets' n).other.pad ≡ n.pad → ⊥) → Given lasts (tickets' n).other
   far_after n r p =
       let r₀ : is_recall (tickets n).kind ≡ true = rw (recall_kept n r) at r in
       rw (recall_kept n r) (rules.far n r₀ (rw (recall_kept n r) at p))
 
-  farEntry-after : (n : Name) → is_recall (tickets' n).kind ≡ true → ((tickets' n).other.pad ≡ n.pad → ⊥) → (entries' (tickets' n).other).live ≡ true
+  far_entry_after : (n : Name) → is_recall (tickets' n).kind ≡ true → ((tickets' n).other.pad ≡ n.pad → ⊥) → (entries' (tickets' n).other).live ≡ true
       → FarOk (tickets' (own_name n (tickets' n))) (entries' (tickets' n).other)
-  farEntry-after n r p l =
+  far_entry_after n r p l =
       let r₀ : is_recall (tickets n).kind ≡ true = rw (recall_kept n r) at r in
       let l₀ : (entries' (tickets n).other).live ≡ true = rw (recall_kept n r) at l in
       let e : entries' (tickets n).other ≡ entries (tickets n).other = entry_kept (tickets n).other l₀ in
@@ -181,21 +175,9 @@ module _ (tickets tickets' : Name → Ticket) (entries entries' : Name → Entry
       (subst (λ (m : Name). is_child (tickets m).kind ≡ true) r.target (rules.near r.by r.recall p).child)
       (entry_head (rules.entry n l))
 
-  lent_after : (n : Name) → (entries' n).live ≡ true → under_store (entries' n) ≡ false → Recalled tickets' n
-  lent_after n l z =
-      let l₀ : (entries n).live ≡ true = rw (entry_kept n l) at l in
-      let z₀ : under_store (entries n) ≡ false = rw (entry_kept n l) at z in
-      let r : Recalled tickets n = rules.lent n l₀ z₀ in
-      let s : gone r.by ≡ false
-      = not_pass
-      (λ g. subst (λ (m : Name). cut m ≡ true) r.target
-      (closure.told r.by r.recall (lent_far n l₀ r) g (subst (λ (m : Name). (entries m).live ≡ true) (sym r.target) l₀)))
-      (entry_stays n l) in
-      record { by = r.by; recall = rw (ticket_same r.by s) r.recall; target = rw (ticket_same r.by s) r.target }
-
-  noFar-after : (n : Name) → is_recall (tickets' n).kind ≡ true → ((tickets' n).other.pad ≡ n.pad → ⊥)
+  no_far_after : (n : Name) → is_recall (tickets' n).kind ≡ true → ((tickets' n).other.pad ≡ n.pad → ⊥)
       → is_child (tickets' (tickets' n).other).kind ≡ false
-  noFar-after n r p = go (case (gone (tickets n).other))
+  no_far_after n r p = go (case (gone (tickets n).other))
     where
       r₀ : is_recall (tickets n).kind ≡ true
       r₀ = rw (recall_kept n r) at r
@@ -215,7 +197,7 @@ module _ (tickets tickets' : Name → Ticket) (entries entries' : Name → Entry
     child = child_after;
     chain = chain_after;
     recalled = recalled_after;
-    no_far = noFar-after;
+    no_far = no_far_after;
     lent = lent_after;
     dock = λ n h. let s = ticket_kept n (live_head (tickets' n).kind h) in rw s (rules.dock n (rw s at h));
     taken = λ n h.
@@ -225,7 +207,7 @@ module _ (tickets tickets' : Name → Ticket) (entries entries' : Name → Entry
     recall = recall_after;
     near = near_after;
     far = far_after;
-    far_entry = farEntry-after;
+    far_entry = far_entry_after;
     once = λ n m r s e.
         let a = recall_kept n r in
         let b = recall_kept m s in
@@ -239,3 +221,21 @@ module _ (tickets tickets' : Name → Ticket) (entries entries' : Name → Entry
         let b = entry_kept m k in
         rw (a, b) (rules.roots n m (rw a at l) (rw b at k) (rw a at z) (rw b at w) ne);
   }
+    where
+      near_after : (n : Name) → is_recall (tickets' n).kind ≡ true → (tickets' n).other.pad ≡ n.pad → NearOk n (tickets' n) (tickets' (tickets' n).other)
+      near_after n r p =
+          let r₀ : is_recall (tickets n).kind ≡ true = rw (recall_kept n r) at r in
+          let p₀ : (tickets n).other.pad ≡ n.pad = rw (recall_kept n r) at p in
+          rw (recall_kept n r) (rw (ticket_same (tickets n).other (closure.pair n r₀ p₀ ∙ recall_stays n r)) (rules.near n r₀ p₀))
+
+      lent_after : (n : Name) → (entries' n).live ≡ true → under_store (entries' n) ≡ false → Recalled tickets' n
+      lent_after n l z =
+          let l₀ : (entries n).live ≡ true = rw (entry_kept n l) at l in
+          let z₀ : under_store (entries n) ≡ false = rw (entry_kept n l) at z in
+          let r : Recalled tickets n = rules.lent n l₀ z₀ in
+          let s : gone r.by ≡ false
+          = not_pass
+          (λ g. subst (λ (m : Name). cut m ≡ true) r.target
+          (closure.told r.by r.recall (lent_far n l₀ r) g (subst (λ (m : Name). (entries m).live ≡ true) (sym r.target) l₀)))
+          (entry_stays n l) in
+          record { by = r.by; recall = rw (ticket_same r.by s) r.recall; target = rw (ticket_same r.by s) r.target }

@@ -13,7 +13,7 @@ use Rattle.tables.specs.Chains.{own_name, parent_of, at_or_under, chain_head, at
 use Rattle.tables.specs.Order.{under_store}
 use Rattle.tables.specs.Change.{drop_tickets}
 use Rattle.tables.proofs.KindLaws.{child_head, recall_head, child_recall, grant_recall, taken_head}
-use Rattle.tables.proofs.NameLaws.{eqName-true, eqName-refl, eqName-false}
+use Rattle.tables.proofs.NameLaws.{eq_name_true, eq_name_refl, eq_name_false}
 use Rattle.tables.proofs.Keys.{drop_no_entry}
 use Rattle.machine.specs.declared.Request.{Request}
 use Rattle.machine.specs.State.{asked_name, asked}
@@ -57,14 +57,14 @@ module _ (t : Tables) (ok : InOrder t) where
   far_not_taken r h away n k c =
       let l : (entry_of t n).live ≡ true = ok.rules.taken n k in
       let z : under_store (entry_of t n) ≡ true = taken_root (ok.rules.entry n l) k in
-      let e : n ≡ (lookup t r).other = eqName-true n (lookup t r).other (sym (at_root t ok (lookup t r).other n z) ∙ c) in
+      let e : n ≡ (lookup t r).other = eq_name_true n (lookup t r).other (sym (at_root t ok (lookup t r).other n z) ∙ c) in
       contradiction z (ap (λ (m : Name). under_store (entry_of t m)) e ∙ (far_hangs r h away (ap (λ (m : Name). (entry_of t m).live) (sym e) ∙ l)).1)
 
   -- a recall under the head x: the entry that it names hangs directly under x's
   under_head : (x : Name) → is_head (lookup t x).kind ≡ true → (r : Name) → is_recall (lookup t r).kind ≡ true → ((lookup t r).other.pad ≡ r.pad → ⊥)
       → at_or_under t x r ≡ true → (entry_of t (lookup t r).other).live ≡ true → (entry_of t (lookup t r).other).parent ≡ x
   under_head x hx r h away g l =
-      (far_hangs r h away l).0 ∙ eqName-true (lookup t (own_name r (lookup t r))).dock x (sym (recall_by_dock t ok x hx r h) ∙ g)
+      (far_hangs r h away l).0 ∙ eq_name_true (lookup t (own_name r (lookup t r))).dock x (sym (recall_by_dock t ok x hx r h) ∙ g)
 
   -- ---- give back: the taken grant x with all under it, its entry with all below it
   module _ (x : Name) (taken : is_taken (lookup t x).kind ≡ true) where
@@ -85,12 +85,12 @@ module _ (t : Tables) (ok : InOrder t) where
             → (entry_of t (lookup t r).other).live ≡ true → at_or_below t x (lookup t r).other ≡ true
         told r h away g l =
             entry_falls t ok x (lookup t r).other l (far_hangs r h away l).1
-            (ap (at_or_below t x) (under_head x (taken_head (lookup t x).kind taken) r h away g l) ∙ at_root t ok x x root ∙ eqName-refl x)
+            (ap (at_or_below t x) (under_head x (taken_head (lookup t x).kind taken) r h away g l) ∙ at_root t ok x x root ∙ eq_name_refl x)
 
         lost : (n : Name) → (entry_of t n).live ≡ true → at_or_under t x n ≡ true → at_or_below t x n ≡ true
         lost n l g =
-            let e : n ≡ x = eqName-true n x (sym (at_head t ok x n (entry_grant t ok n l)) ∙ g) in
-            at_root t ok x n (rw e root) ∙ rw e (eqName-refl x)
+            let e : n ≡ x = eq_name_true n x (sym (at_head t ok x n (entry_grant t ok n l)) ∙ g) in
+            at_root t ok x n (rw e root) ∙ rw e (eq_name_refl x)
 
         both : (n : Name) → is_taken (lookup t n).kind ≡ true → at_or_below t x n ≡ true → at_or_under t x n ≡ true
         both n h c =
@@ -111,7 +111,7 @@ module _ (t : Tables) (ok : InOrder t) where
 
         lost : (n : Name) → (entry_of t n).live ≡ true → at_or_under t x n ≡ true → false ≡ true
         lost n l g =
-            let e : n ≡ x = eqName-true n x (sym (at_head t ok x n (entry_grant t ok n l)) ∙ g) in
+            let e : n ≡ x = eq_name_true n x (sym (at_head t ok x n (entry_grant t ok n l)) ∙ g) in
             sym none ∙ ap (λ (m : Name). (entry_of t m).live) (sym e) ∙ l
 
   -- ---- recall on the same pad: the recall me, its target and all under that; in the dock what was lent away from there
@@ -139,7 +139,7 @@ module _ (t : Tables) (ok : InOrder t) where
             → (eq_name n me || at_or_under t (lookup t me).other n) ≡ true
         down n h e =
             let a : eq_name (parent_of (lookup t) n) me ≡ false
-            = eqName-false (parent_of (lookup t) n) me (λ q. grant_recall (lookup t (parent_of (lookup t) n)).kind (parent_is_grant n h) (rw q recall)) in
+            = eq_name_false (parent_of (lookup t) n) me (λ q. grant_recall (lookup t (parent_of (lookup t) n)).kind (parent_is_grant n h) (rw q recall)) in
             or_right (eq_name n me) (falls t ok (lookup t me).other n h (rw a at e))
 
         pair : (r : Name) → is_recall (lookup t r).kind ≡ true → (lookup t r).other.pad ≡ r.pad
@@ -147,25 +147,25 @@ module _ (t : Tables) (ok : InOrder t) where
         pair r h p =
             let c : is_child (lookup t (lookup t r).other).kind ≡ true = (ok.rules.near r h p).child in
             let a : eq_name (lookup t r).other me ≡ false
-            = eqName-false (lookup t r).other me (λ e. child_recall (lookup t (lookup t r).other).kind c (rw e recall)) in
+            = eq_name_false (lookup t r).other me (λ e. child_recall (lookup t (lookup t r).other).kind c (rw e recall)) in
             let b : eq_name r (lookup t me).other ≡ false
-            = eqName-false r (lookup t me).other (λ e. child_recall (lookup t r).kind (rw e target) h) in
+            = eq_name_false r (lookup t me).other (λ e. child_recall (lookup t r).kind (rw e target) h) in
             let s : eq_name (lookup t r).other (lookup t me).other ≡ eq_name r me = go (case (eq_name r me)) in
             rw (a, target_step t ok (lookup t me).other r h p, recall_step t ok (lookup t me).other r h, b, s)
           where
             go : Case (eq_name r me) → eq_name (lookup t r).other (lookup t me).other ≡ eq_name r me
-            go (pass e) = ap (λ (m : Name). eq_name (lookup t m).other (lookup t me).other) (eqName-true r me e) ∙ eqName-refl (lookup t me).other ∙ sym e
+            go (pass e) = ap (λ (m : Name). eq_name (lookup t m).other (lookup t me).other) (eq_name_true r me e) ∙ eq_name_refl (lookup t me).other ∙ sym e
             go (fail e) =
-                eqName-false (lookup t r).other (lookup t me).other
-                (λ q. no_true (sym e ∙ ap (λ (m : Name). eq_name m me) (ok.rules.once r me h recall q) ∙ eqName-refl me))
+                eq_name_false (lookup t r).other (lookup t me).other
+                (λ q. no_true (sym e ∙ ap (λ (m : Name). eq_name m me) (ok.rules.once r me h recall q) ∙ eq_name_refl me))
                 ∙ sym e
 
         lost : (n : Name) → (entry_of t n).live ≡ true → (eq_name n me || at_or_under t (lookup t me).other n) ≡ true
             → lent_away t (λ n. eq_name n me || at_or_under t (lookup t me).other n) n ≡ true
         lost n l g =
-            let a : eq_name n me ≡ false = eqName-false n me (λ e. recall_head (lookup t n).kind (rw e recall) (entry_grant t ok n l)) in
+            let a : eq_name n me ≡ false = eq_name_false n me (λ e. recall_head (lookup t n).kind (rw e recall) (entry_grant t ok n l)) in
             let b : eq_name n (lookup t me).other ≡ false
-            = eqName-false n (lookup t me).other (λ e. child_head (lookup t n).kind (rw e target) (entry_grant t ok n l)) in
+            = eq_name_false n (lookup t me).other (λ e. child_head (lookup t n).kind (rw e target) (entry_grant t ok n l)) in
             no_true (sym b ∙ sym (at_head t ok (lookup t me).other n (entry_grant t ok n l)) ∙ (rw a at g))
 
   -- ---- recall across pads: the recall alone, and in the dock the target with all below it
@@ -176,18 +176,18 @@ module _ (t : Tables) (ok : InOrder t) where
         told : (r : Name) → is_recall (lookup t r).kind ≡ true → ((lookup t r).other.pad ≡ r.pad → ⊥) → eq_name r me ≡ true
             → (entry_of t (lookup t r).other).live ≡ true → at_or_below t (lookup t me).other (lookup t r).other ≡ true
         told r h away g l =
-            ap (λ (m : Name). at_or_below t (lookup t me).other (lookup t m).other) (eqName-true r me g) ∙ at_itself t (lookup t me).other
+            ap (λ (m : Name). at_or_below t (lookup t me).other (lookup t m).other) (eq_name_true r me g) ∙ at_itself t (lookup t me).other
 
         down : (n : Name) → is_none (parent_of (lookup t) n) ≡ false → eq_name (parent_of (lookup t) n) me ≡ true → eq_name n me ≡ true
-        down n h e = absurd (grant_recall (lookup t (parent_of (lookup t) n)).kind (parent_is_grant n h) (rw (eqName-true (parent_of (lookup t) n) me e) recall))
+        down n h e = absurd (grant_recall (lookup t (parent_of (lookup t) n)).kind (parent_is_grant n h) (rw (eq_name_true (parent_of (lookup t) n) me e) recall))
 
         pair : (r : Name) → is_recall (lookup t r).kind ≡ true → (lookup t r).other.pad ≡ r.pad → eq_name (lookup t r).other me ≡ eq_name r me
         pair r h p =
-            eqName-false (lookup t r).other me (λ e. child_recall (lookup t (lookup t r).other).kind (ok.rules.near r h p).child (rw e recall))
-            ∙ sym (eqName-false r me (λ e. other (rw e at p)))
+            eq_name_false (lookup t r).other me (λ e. child_recall (lookup t (lookup t r).other).kind (ok.rules.near r h p).child (rw e recall))
+            ∙ sym (eq_name_false r me (λ e. other (rw e at p)))
 
         lost : (n : Name) → (entry_of t n).live ≡ true → eq_name n me ≡ true → at_or_below t (lookup t me).other n ≡ true
-        lost n l e = absurd (recall_head (lookup t n).kind (rw (eqName-true n me e) recall) (entry_grant t ok n l))
+        lost n l e = absurd (recall_head (lookup t n).kind (rw (eq_name_true n me e) recall) (entry_grant t ok n l))
 
         both : (n : Name) → is_taken (lookup t n).kind ≡ true → at_or_below t (lookup t me).other n ≡ true → eq_name n me ≡ true
         both n h c = absurd (far_not_taken me recall other n h c)

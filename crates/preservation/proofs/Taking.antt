@@ -18,7 +18,7 @@ use Rattle.tables.specs.Lookup.{program_at, tickets_of, last_of, lookup, entry_o
 use Rattle.tables.specs.Change.{is_free, has_place, new_name, give, is_spare, put_entry}
 use Rattle.tables.specs.Sheets.{outside, has_run}
 use Rattle.tables.specs.Order.{under_store}
-use Rattle.tables.proofs.NameLaws.{eqName-true, eqName-ne, program_same}
+use Rattle.tables.proofs.NameLaws.{eq_name_true, eq_name_ne, program_same}
 use Rattle.machine.specs.declared.Request.{Request}
 use Rattle.machine.specs.Take.{take_tables}
 use Rattle.preservation.specs.Rules.{Apart, Given, here}
@@ -144,12 +144,12 @@ module _ (t : Tables) (ok : InOrder t) (r : Request) (may : MayTake t r) where
   }
 
   old : (n : Name) → is_live (lookup t₂ n).kind ≡ true → Case (eq_name n x) → (is_live (lookup t n).kind ≡ true) ⊎ NewTicket (lookup t₂) (entry_of t₂) (last_of t₂) n
-  old n l (pass h) = inr (rw (eqName-true n x h) new_x)
-  old n l (fail h) = inl (rw (tickets_beside n (eqName-ne n x h)) at l)
+  old n l (pass h) = inr (rw (eq_name_true n x h) new_x)
+  old n l (fail h) = inl (rw (tickets_beside n (eq_name_ne n x h)) at l)
 
   old_entry : (n : Name) → (entry_of t₂ n).live ≡ true → Case (eq_name n x) → ((entry_of t n).live ≡ true) ⊎ NewEntry (lookup t₂) (entry_of t₂) n
-  old_entry n l (pass h) = inr (rw (eqName-true n x h) new_entry_x)
-  old_entry n l (fail h) = inl (rw (entries_beside n (eqName-ne n x h)) at l)
+  old_entry n l (pass h) = inr (rw (eq_name_true n x h) new_entry_x)
+  old_entry n l (fail h) = inl (rw (entries_beside n (eq_name_ne n x h)) at l)
 
   not_x : (n : Name) → Given (last_of t) n → n ≡ x → ⊥
   not_x n g q = past_given t ok x refl (rw q at g)

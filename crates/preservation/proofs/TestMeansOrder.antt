@@ -21,7 +21,7 @@ use Rattle.tables.specs.Chains.{own_name, parent_of, chain_head, entry_parent, c
 use Rattle.tables.specs.Sheets.{apart, inside}
 use Rattle.tables.specs.Order.{every_ticket, is_recalled, every_entry, numbers_ok, t1, span_ok, t2, parent_ok, child_ok, t3, t4, entry_names_ok, under_store, grant_ok, parent_entry_ok, entry_ok, roots_ok, t5, recall_parent_ok, is_child_of, far_target_ok, target_ok, recall_ok, t6, in_order}
 use Rattle.tables.proofs.KindLaws.{live_grant, live_child, live_recall, live_head, live_taken}
-use Rattle.tables.proofs.NameLaws.{eqName-true, eqName-test, is_program_lem}
+use Rattle.tables.proofs.NameLaws.{eq_name_true, eq_name_test, is_program_lem}
 use Rattle.tables.proofs.Keys.{ticket_keys, entry_keys, ticket_laws, entry_laws}
 use Rattle.tables.proofs.ByPlace.{ticket_at, place_low_lem, found_number, name_in_range, every_entry_elim, found_name, numbers_at}
 use Rattle.preservation.specs.Rules.{Apart, Given, ChildOk, RecallOk, NearOk, FarOk, Recalled, EntryOk, UnderOk}
@@ -48,7 +48,7 @@ parent_of_lem n k p e =
       program = eqb-false k.other.program n.program (not-true (eqb k.other.program n.program) f₃);
       pass = f₄;
       inside = inside_of _ _ _ _ _ _ f₅;
-      dock = eqName-true k.dock p.dock f₆;
+      dock = eq_name_true k.dock p.dock f₆;
     }
 
 grant_of : (e : Entry) (k : Ticket) → grant_ok e k ≡ true → EntryOk e k
@@ -60,7 +60,7 @@ grant_of e k h =
     let f₄ : eqb k.rights.bits e.rights.bits ≡ true = search (and_l, and_r) depth 6 in
     record {
       taken = λ z. and_r (eq_name e.parent no_name) (is_taken k.kind) (rw z at f₁);
-      store = λ z. eqName-true e.parent no_name (and_l (eq_name e.parent no_name) (is_taken k.kind) (rw z at f₁));
+      store = λ z. eq_name_true e.parent no_name (and_l (eq_name e.parent no_name) (is_taken k.kind) (rw z at f₁));
       received = λ z. rw z at f₁;
       first = eqb-true k.first e.first f₂;
       count = eqb-true k.count e.count f₃;
@@ -96,7 +96,7 @@ module _ (t : Tables) (x : Name) (p : Ticket) (e : Entry) (h : far_target_ok t x
       let f : implies e.live (eq_name e.parent p.dock && inside e.first e.count e.rights p.first p.count p.rights) ≡ true
       = search (and_l, and_r) depth 6 in
       let g = implies_elim e.live (eq_name e.parent p.dock && inside e.first e.count e.rights p.first p.count p.rights) f l in
-      record { parent = eqName-true e.parent p.dock (and_l (eq_name e.parent p.dock) _ g); inside = inside_of _ _ _ _ _ _ (and_r (eq_name e.parent p.dock) _ g) }
+      record { parent = eq_name_true e.parent p.dock (and_l (eq_name e.parent p.dock) _ g); inside = inside_of _ _ _ _ _ _ (and_r (eq_name e.parent p.dock) _ g) }
 
 module _ (t : Tables) (z : Sized t) (test : in_order t ≡ true) where
   -- ---- the rules that the test is made of
@@ -268,7 +268,7 @@ module _ (t : Tables) (z : Sized t) (test : in_order t ≡ true) where
       = rw (eq-eqb (lookup t n).other.pad n.pad p) at e in
       record {
         child = and_l (is_child (lookup t (lookup t n).other).kind) _ f;
-        parent = eqName-true (lookup t (lookup t n).other).other (own_name n (lookup t n)) (and_r (is_child (lookup t (lookup t n).other).kind) _ f);
+        parent = eq_name_true (lookup t (lookup t n).other).other (own_name n (lookup t n)) (and_r (is_child (lookup t (lookup t n).other).kind) _ f);
       }
 
   far_test : (n : Name) → is_recall (lookup t n).kind ≡ true → ((lookup t n).other.pad ≡ n.pad → ⊥)
@@ -281,16 +281,16 @@ module _ (t : Tables) (z : Sized t) (test : in_order t ≡ true) where
   once_of n m h k e =
       let w = recall_test m k in
       let x : every_ticket is_recall (λ a other. implies (eq_name other.other (lookup t m).other) (eq_name a m)) t ≡ true = search (and_l, and_r) depth 5 in
-      eqName-true n m
+      eq_name_true n m
       (implies_elim (eq_name (lookup t n).other (lookup t m).other) (eq_name n m)
       (every_ticket_elim t z is_recall live_recall (λ a other. implies (eq_name other.other (lookup t m).other) (eq_name a m)) x n h)
-      (eqName-test (lookup t n).other (lookup t m).other e))
+      (eq_name_test (lookup t n).other (lookup t m).other e))
 
   recalled_from : (n : Name) → is_recalled t n ≡ true → Recalled (lookup t) n
   recalled_from n x =
       let s : SomeName t test_shape is_recall live_recall (λ a recall. eq_name recall.other n)
       = some_ticket_elim t test_shape is_recall live_recall (λ a recall. eq_name recall.other n) x in
-      record { by = s.name; recall = s.picked; target = eqName-true (lookup t s.name).other n s.passes }
+      record { by = s.name; recall = s.picked; target = eq_name_true (lookup t s.name).other n s.passes }
 
   recalled_of : (n : Name) → is_child (lookup t n).kind ≡ true → Recalled (lookup t) n
   recalled_of n h = recalled_from n (every_ticket_elim t z is_child live_child (λ m k. is_recalled t m) rule6_children n h)
@@ -313,7 +313,7 @@ module _ (t : Tables) (z : Sized t) (test : in_order t ≡ true) where
       span = λ n h. span_of (lookup t n) (every_ticket_elim t z is_grant live_grant (λ m k. span_ok k) rule2 n h);
       child = child_of;
       chain = λ n h. ends_of (parent_of (lookup t)) (λ m. is_head (lookup t m).kind ≡ true) no_head 64 n (head_found n h);
-      dock = λ n h. eqName-true (lookup t n).dock n (every_ticket_elim t z is_head live_head (λ m k. eq_name k.dock m) rule4 n h);
+      dock = λ n h. eq_name_true (lookup t n).dock n (every_ticket_elim t z is_head live_head (λ m k. eq_name k.dock m) rule4 n h);
       entry_name = found_name t z;
       entry = entry_of_lem;
       under = under_of;

@@ -19,7 +19,7 @@ use Rattle.tables.specs.Chains.{entry_parent}
 use Rattle.tables.specs.Sheets.{apart, outside, is_free_sheet, sheets_free}
 use Rattle.tables.specs.Order.{under_store}
 use Rattle.tables.proofs.Keys.{entry_keys, entry_laws, entry_keyed}
-use Rattle.tables.proofs.NameLaws.{eqName-true, eqName-ne}
+use Rattle.tables.proofs.NameLaws.{eq_name_true, eq_name_ne}
 use Rattle.tables.proofs.KindLaws.{taken_head, head_grant}
 use Rattle.preservation.specs.Rules.{Rules, Ends, here, up}
 use Rattle.preservation.specs.InOrder.{InOrder}
@@ -164,12 +164,12 @@ module _ (t : Tables) (o : InOrder t) (s : ℕ) where
   alone r n i p = go (case (eq_name n r.name))
     where
       go : Case (eq_name n r.name) → n ≡ r.name
-      go (pass e) = eqName-true n r.name e
+      go (pass e) = eq_name_true n r.name e
       go (fail e) =
           let l = entry_live n i in
           let h = entry_has n i p in
           let k = r.sheet in
-          let a = rules.roots n r.name l r.live (taken_root (rules.entry n l) (taken_is t n i)) r.store (eqName-ne n r.name e) in
+          let a = rules.roots n r.name l r.live (taken_root (rules.entry n l) (taken_is t n i)) r.store (eq_name_ne n r.name e) in
           absurd (⊎_elim (λ x. omega (arith, x, h.high, k.low)) (λ y. omega (arith, y, h.low, k.high)) a)
 
   each_sheet : count_of has (taken_grants t) + one (is_free_sheet t.entries s) ≡ 1

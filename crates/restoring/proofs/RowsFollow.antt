@@ -23,7 +23,7 @@ use Rattle.tables.specs.Kinds.{is_live}
 use Rattle.tables.specs.Names.{eq_name}
 use Rattle.tables.specs.Lookup.{tickets_of}
 use Rattle.tables.specs.Same.{said, said_by, said_entry}
-use Rattle.tables.proofs.NameLaws.{name_eq, eqName-test}
+use Rattle.tables.proofs.NameLaws.{name_eq, eq_name_test}
 use Rattle.tables.proofs.Keys.{ticket_keys, entry_keys, ticket_laws, entry_laws}
 use Rattle.image.specs.Image.{kind_number}
 use Rattle.saved.specs.declared.Row.{Row}
@@ -190,7 +190,7 @@ module _ (t : Tables) (good : Good t) where
       let s = keys_same (entry_row y) (entry_row x) (entry_in_lem t y k h) (entry_in_lem t x m l) e in
       let v = entry_at x in
       let w = entry_at y in
-      eqName-test x.name y.name
+      eq_name_test x.name y.name
       (name_eq (sym v.0 ∙ sym s.pad ∙ w.0) (sym v.1.0 ∙ sym s.program ∙ w.1.0) (sym v.1.1 ∙ sym s.number ∙ w.1.1)))
 
   pub rows_apart : Once (map key (rows_found t))

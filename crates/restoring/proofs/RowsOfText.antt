@@ -14,7 +14,8 @@ use Rattle.text.specs.Reading.{cut, lines, has_values, values_of}
 use Rattle.text.specs.Names.{named, behind_names}
 use Rattle.text.specs.Writing.{values_line}
 use Rattle.round_trip.proofs.JoinedFields.{without, first_line_lem}
-use Rattle.round_trip.proofs.RoundTrip.{line_of, OneLine, values_written, written_values, values_unended}
+use Rattle.round_trip.proofs.RoundTrip.{line_of, written_values, values_unended}
+use Rattle.round_trip.proofs.WrittenValues.{OneLine, values_written}
 use Rattle.saved.specs.declared.Row.{Row}
 use Rattle.saved.specs.Row.{column_names, columns, row_of, columns_of, row_ok, line_ok}
 use Rattle.saved.specs.Save.{text_of}

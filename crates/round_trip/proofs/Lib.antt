@@ -1,3 +1,4 @@
 pub mod DecimalLaws
 pub mod JoinedFields
 pub mod RoundTrip
+pub mod WrittenValues

@@ -1,5 +1,5 @@
--- Reading and writing agree: a number and a line of values that were written are read as they were, and a field and a line that are read
--- are what writing their values gives.
+-- Reading and writing agree: a number that was written is read as it was, and a field and a line that are read are what writing their values
+-- gives. That a line of values that was written is read as it was: WrittenValues.
 use Prim.Native.Nat.{ℕ, ◌≤◌, ◌<◌}
 use native.Mathlib.Omega.{arith}
 use mathlib.Core.Path.{◌≡◌, refl, sym, ap, ◌∙◌}
@@ -7,16 +7,16 @@ use mathlib.Core.Bool.{true, not, ◌&&◌}
 use mathlib.Core.List.{List, [], ◌∷◌, ◌++◌, map, append_assoc}
 use lib.Dec.{leb, eqb}
 use lib.ListN.{length, length-map}
-use borrow.Author.Tests.{leb-true, le-leb, eq-eqb, ne_eqb}
+use borrow.Author.Tests.{leb-true, le-leb, ne_eqb}
 use Rattle.lists.specs.Lists.{all}
 use Rattle.lists.proofs.Tests.{and_l, and_r, and_intro, not_test, between_low}
 use Rattle.lists.proofs.Everywhere.{all_append}
 use Rattle.text.specs.Bytes.{space, line_end}
-use Rattle.text.specs.Reading.{lines, fields, is_digit, number, is_number, no_leading_zero, is_value, has_values, values_of}
+use Rattle.text.specs.Reading.{fields, is_digit, number, is_number, no_leading_zero, is_value, has_values, values_of}
 use Rattle.text.specs.Writing.{places, decimal, behind, values_line}
 use Rattle.text.proofs.ReadingLaws.{fields_some}
 use Rattle.round_trip.proofs.DecimalLaws.{decimal_value, decimal_all, digits_back, places_field}
-use Rattle.round_trip.proofs.JoinedFields.{without, joined, one_line, fields_joined, joined_fields}
+use Rattle.round_trip.proofs.JoinedFields.{without, joined, joined_fields}
 
 -- ---- numbers
 pub number_decimal : (n : ℕ) → n ≤ 65535 → (is_value (decimal n) ≡ true) × (number (decimal n) ≡ n)
@@ -47,7 +47,7 @@ digits_without x h (b ∷ l) e =
 abbrev pub line_of : List ℕ → List ℕ
 line_of values = joined (map decimal values)
 
-line_ended : (values : List ℕ) → 0 < length values → values_line values ≡ line_of values ++ line_end ∷ []
+pub line_ended : (values : List ℕ) → 0 < length values → values_line values ≡ line_of values ++ line_end ∷ []
 unfolding values_line behind joined
 line_ended [] h = absurd (omega arith)
 line_ended (v ∷ []) h = refl
@@ -55,7 +55,7 @@ line_ended (v ∷ w ∷ vs) h =
     ap (λ (l : List ℕ). decimal v ++ space ∷ l) (line_ended (w ∷ vs) (omega arith))
     ∙ sym (append_assoc (decimal v) (space ∷ line_of (w ∷ vs)) (line_end ∷ []))
 
-line_without : (values : List ℕ) → without line_end (line_of values) ≡ true
+pub line_without : (values : List ℕ) → without line_end (line_of values) ≡ true
 unfolding joined all
 line_without [] = refl
 line_without (v ∷ []) = digits_without line_end (omega arith) (decimal v) (decimal_all v)
@@ -63,21 +63,12 @@ line_without (v ∷ w ∷ vs) =
     all_append (λ b. not (eqb b line_end)) (decimal v) (space ∷ line_of (w ∷ vs))
     (digits_without line_end (omega arith) (decimal v) (decimal_all v)) (line_without (w ∷ vs))
 
-fields_without : (values : List ℕ) → all (without space) (map decimal values) ≡ true
+pub fields_without : (values : List ℕ) → all (without space) (map decimal values) ≡ true
 unfolding all
 fields_without [] = refl
 fields_without (v ∷ vs) = and_intro (digits_without space (omega arith) (decimal v) (decimal_all v)) (fields_without vs)
 
 -- ---- values
-decimals_values : (values : List ℕ) → all (λ x. leb x 65535) values ≡ true
-    → (all is_value (map decimal values) ≡ true) × (map number (map decimal values) ≡ values)
-unfolding all
-decimals_values [] e = (refl, refl)
-decimals_values (v ∷ vs) e =
-    let d = number_decimal v (leb-true v 65535 (and_l (leb v 65535) (all (λ x. leb x 65535) vs) e)) in
-    let ih = decimals_values vs (and_r (leb v 65535) (all (λ x. leb x 65535) vs) e) in
-    (and_intro d.0 ih.0, λ k. d.1 k ∷ ih.1 k)
-
 numbers_decimals : (fs : List (List ℕ)) → all is_value fs ≡ true → fs ≡ map decimal (map number fs)
 unfolding all
 numbers_decimals [] e = refl
@@ -85,25 +76,6 @@ numbers_decimals (f ∷ fs) e =
     let d = decimal_number f (and_l (is_value f) (all is_value fs) e) in
     let ih = numbers_decimals fs (and_r (is_value f) (all is_value fs) e) in
     λ k. d k ∷ ih k
-
--- what was written is one line of just these values
-pub record OneLine (values text line : List ℕ) : Type 0 where
-  pub only : lines text ≡ line ∷ []
-  pub counted : has_values (length values) line ≡ true
-  pub read : values_of line ≡ values
-
-pub values_written : (v : ℕ) (vs : List ℕ) → all (λ x. leb x 65535) (v ∷ vs) ≡ true
-    → OneLine (v ∷ vs) (values_line (v ∷ vs)) (line_of (v ∷ vs))
-unfolding has_values values_of
-values_written v vs e =
-    let values : List ℕ = v ∷ vs in
-    let f : fields (line_of values) ≡ map decimal values = fields_joined (decimal v) (map decimal vs) (fields_without values) in
-    let d = decimals_values values e in
-    record {
-      only = rw (line_ended values (omega arith)) (one_line (line_of values) (line_without values));
-      counted = rw f (and_intro (eq-eqb (length (map decimal values)) (length values) (length-map values decimal)) d.0);
-      read = rw f d.1;
-    }
 
 -- a line that is read is what is written of its values, and has no byte 10
 module _ (n : ℕ) (line : List ℕ) (e : has_values n line ≡ true) where

@@ -11,7 +11,7 @@ use Rattle.tables.specs.declared.Kind.TheVariants.{Received, Child}
 use Rattle.tables.specs.Names.{eq_name, same_program, grant_ticket, head_ticket, recall_ticket, entry_for}
 use Rattle.tables.specs.Lookup.{last_of, lookup, entry_of}
 use Rattle.tables.specs.Same.{said, said_entry, SameTables}
-use Rattle.tables.proofs.NameLaws.{eqName-true, eqName-ne, program_same}
+use Rattle.tables.proofs.NameLaws.{eq_name_true, eq_name_ne, program_same}
 use Rattle.machine.specs.declared.Request.{Request}
 use Rattle.machine.specs.State.{asked_name, asked}
 use Rattle.machine.specs.Pass.{pass_tables}
@@ -67,11 +67,11 @@ module _ (t u : Tables) (ok : InOrder t) (ok' : InOrder u) (same : SameTables t 
 
     ticket_at_lem : (n : Name) → Case (eq_name n (recall_name t r)) → Case (eq_name n (grant_name t r))
         → said (lookup (pass_tables t r) n) ≡ said (lookup (pass_tables u r) n)
-    ticket_at_lem n (pass e) _ = ap said (rw (eqName-true n (recall_name t r) e) (a.recall ∙ sym recall_there))
-    ticket_at_lem n (fail f) (pass e) = ap said (rw (eqName-true n (grant_name t r) e) (a.grant ∙ sym grant_there))
+    ticket_at_lem n (pass e) _ = ap said (rw (eq_name_true n (recall_name t r) e) (a.recall ∙ sym recall_there))
+    ticket_at_lem n (fail f) (pass e) = ap said (rw (eq_name_true n (grant_name t r) e) (a.grant ∙ sym grant_there))
     ticket_at_lem n (fail f) (fail e) =
-        let nx = eqName-ne n (recall_name t r) f in
-        let ny = eqName-ne n (grant_name t r) e in
+        let nx = eq_name_ne n (recall_name t r) f in
+        let ny = eq_name_ne n (grant_name t r) e in
         ap said (a.tickets n nx ny) ∙ same.tickets n
         ∙ ap said (sym (b.tickets n (λ z. nx (z ∙ sym recall_name_lem)) (λ z. ny (z ∙ sym grant_name_lem))))
 
@@ -96,12 +96,12 @@ module _ (t u : Tables) (ok : InOrder t) (ok' : InOrder u) (same : SameTables t 
 
     entry_at : (n : Name) → Case (eq_name n (grant_name t r)) → said_entry (entry_of (pass_tables t r) n) ≡ said_entry (entry_of (pass_tables u r) n)
     entry_at n (pass e) =
-        let q : n ≡ grant_name t r = eqName-true n (grant_name t r) e in
+        let q : n ≡ grant_name t r = eq_name_true n (grant_name t r) e in
         ap said_entry
         (ap (entry_of (pass_tables t r)) q ∙ pass_far_entry t ok r may away ∙ entry_same ∙ sym (pass_far_entry u ok' r may' away)
         ∙ ap (entry_of (pass_tables u r)) (sym (q ∙ grant_name_lem)))
     entry_at n (fail e) =
-        let ne = eqName-ne n (grant_name t r) e in
+        let ne = eq_name_ne n (grant_name t r) e in
         ap said_entry ((pass_far t ok r may away).entries n ne) ∙ same.entries n ∙ ap said_entry (sym (there.entries n (λ z. ne (z ∙ sym grant_name_lem))))
 
     far : SameTables (pass_tables t r) (pass_tables u r)

@@ -8,7 +8,7 @@ use Rattle.tables.specs.Names.{eq_name, same_program}
 use Rattle.tables.specs.Lookup.{last_of, lookup, entry_of}
 use Rattle.tables.specs.Change.{new_name}
 use Rattle.tables.specs.Same.{said, said_entry, SameTables}
-use Rattle.tables.proofs.NameLaws.{eqName-true, eqName-ne, program_same}
+use Rattle.tables.proofs.NameLaws.{eq_name_true, eq_name_ne, program_same}
 use Rattle.best_fit.specs.BestFit.{best_fit}
 use Rattle.machine.specs.declared.Request.{Request}
 use Rattle.machine.specs.Take.{take_tables}
@@ -26,15 +26,15 @@ module _ (t u t' u' : Tables) (same : SameTables t u) (r : Request) (x : Name) (
       ap (λ (g : Program). g.last) (a.programs p q e) ∙ same.lasts p q c d ∙ ap (λ (g : Program). g.last) (sym (b.programs p q e))
 
   ticket_at_lem : (n : Name) → Case (eq_name n x) → said (lookup t' n) ≡ said (lookup u' n)
-  ticket_at_lem n (pass e) = ap said (rw (eqName-true n x e) (a.ticket ∙ sym b.ticket))
+  ticket_at_lem n (pass e) = ap said (rw (eq_name_true n x e) (a.ticket ∙ sym b.ticket))
   ticket_at_lem n (fail e) =
-      let ne = eqName-ne n x e in
+      let ne = eq_name_ne n x e in
       ap said (a.tickets n ne) ∙ same.tickets n ∙ ap said (sym (b.tickets n ne))
 
   entry_at : (n : Name) → Case (eq_name n x) → said_entry (entry_of t' n) ≡ said_entry (entry_of u' n)
-  entry_at n (pass e) = ap said_entry (rw (eqName-true n x e) (a.entry ∙ sym b.entry))
+  entry_at n (pass e) = ap said_entry (rw (eq_name_true n x e) (a.entry ∙ sym b.entry))
   entry_at n (fail e) =
-      let ne = eqName-ne n x e in
+      let ne = eq_name_ne n x e in
       ap said_entry (a.entries n ne) ∙ same.entries n ∙ ap said_entry (sym (b.entries n ne))
 
   same_effect : SameTables t' u'

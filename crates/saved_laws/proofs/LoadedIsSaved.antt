@@ -18,7 +18,7 @@ use Rattle.tables.specs.Lookup.{lookup}
 use Rattle.tables.specs.Names.{no_name, eq_name, is_none, no_entry}
 use Rattle.tables.specs.Chains.{chain_head}
 use Rattle.tables.specs.Order.{every_entry, under_store, grant_ok, entry_ok, t5, in_order}
-use Rattle.tables.proofs.NameLaws.{eqName-true}
+use Rattle.tables.proofs.NameLaws.{eq_name_true}
 use Rattle.machine.specs.Refusal.{◌when◌else◌}
 use Rattle.text.specs.Reading.{has_values, values_of}
 use Rattle.saved.specs.declared.Row.{Row}
@@ -42,7 +42,7 @@ plain_grant : (e : Entry) (k : Ticket) → grant_ok e k ≡ true → is_none e.p
 unfolding grant_ok
 plain_grant e k g n =
     let c : cond (under_store e) (eq_name e.parent no_name && is_taken k.kind) (is_received k.kind) ≡ true = search (and_l, and_r) depth 5 in
-    eqName-true e.parent no_name (and_l (eq_name e.parent no_name) (is_taken k.kind) (rw n at c))
+    eq_name_true e.parent no_name (and_l (eq_name e.parent no_name) (is_taken k.kind) (rw n at c))
 
 entries_ok : (t : Tables) → in_order t ≡ true → all (λ e. implies e.live (entry_ok t e)) t.entries ≡ true
 unfolding in_order t5 every_entry

@@ -11,7 +11,7 @@ use borrow.Author.Tests.{ltb-true, ltb-false}
 use Rattle.lists.specs.Tests.{implies}
 use Rattle.lists.specs.Lists.{first_index, all, all_at, some_at}
 use Rattle.lists.proofs.Tests.{Case, pass, fail, case, implies_intro, implies_elim}
-use Rattle.lists.proofs.Everywhere.{all_intro, all_elim, allAt-intro, allAt-elim, Somewhere, some_intro, some_elim, someAt-intro, someAt-elim}
+use Rattle.lists.proofs.Everywhere.{all_intro, all_elim, all_at_intro, all_at_elim, Somewhere, some_intro, some_elim, some_at_intro, some_at_elim}
 use Rattle.lists.proofs.Keyed.{found_low, found_key}
 use Rattle.tables.specs.declared.{Name.Name, Kind.Kind, Ticket.Ticket, Program.Program, Pad.Pad, Entry.Entry, Tables.Tables}
 use Rattle.tables.specs.Names.{name_of, free, no_entry, no_program, no_pad}
@@ -108,15 +108,15 @@ module _ (t : Tables) (z : Sized t) where
     every_at e p q i b c d =
         implies_elim (picked p q i) _
         (all_elim free (λ k. implies (kinds k.kind) (test (name_of p q k.number) k)) (tickets_of t p q)
-        (allAt-elim no_program (every_ticket_of kinds test p) (pad_at t p).programs
-        (allAt-elim no_pad (λ pad a. all_at (every_ticket_of kinds test pad) 0 a.programs) t.pads e p (pad_low_lem b))
+        (all_at_elim no_program (every_ticket_of kinds test p) (pad_at t p).programs
+        (all_at_elim no_pad (λ pad a. all_at (every_ticket_of kinds test pad) 0 a.programs) t.pads e p (pad_low_lem b))
         q (program_low_lem b c)) i d)
 
     pub every_from : ((p q i : ℕ) → p < 4 → q < 8 → i < length (tickets_of t p q) → picked p q i ≡ true → passes p q i ≡ true) → every_ticket kinds test t ≡ true
     unfolding every_ticket every_ticket_of
     every_from h =
-        allAt-intro no_pad (λ pad a. all_at (every_ticket_of kinds test pad) 0 a.programs) t.pads
-        (λ p b. allAt-intro no_program (every_ticket_of kinds test p) (pad_at t p).programs
+        all_at_intro no_pad (λ pad a. all_at (every_ticket_of kinds test pad) 0 a.programs) t.pads
+        (λ p b. all_at_intro no_program (every_ticket_of kinds test p) (pad_at t p).programs
         (λ q c. all_intro free (λ k. implies (kinds k.kind) (test (name_of p q k.number) k)) (tickets_of t p q)
         (λ i d. implies_intro (picked p q i) _
         (let b' : p < 4 = rw z.pads at b in h p q i b' (rw (z.programs p b') at c) d))))
@@ -124,8 +124,8 @@ module _ (t : Tables) (z : Sized t) where
     pub some_at_lem : (p q i : ℕ) → p < 4 → q < 8 → i < length (tickets_of t p q) → (picked p q i && passes p q i) ≡ true → some_ticket kinds test t ≡ true
     unfolding some_ticket some_ticket_of
     some_at_lem p q i b c d e =
-        someAt-intro no_pad (λ pad a. some_at (some_ticket_of kinds test pad) 0 a.programs) t.pads p (pad_low_lem b)
-        (someAt-intro no_program (some_ticket_of kinds test p) (pad_at t p).programs q (program_low_lem b c)
+        some_at_intro no_pad (λ pad a. some_at (some_ticket_of kinds test pad) 0 a.programs) t.pads p (pad_low_lem b)
+        (some_at_intro no_program (some_ticket_of kinds test p) (pad_at t p).programs q (program_low_lem b c)
         (some_intro free (λ k. kinds k.kind && test (name_of p q k.number) k) (tickets_of t p q) i d e))
 
     -- some ticket: the place that has it
@@ -142,9 +142,9 @@ module _ (t : Tables) (z : Sized t) where
     unfolding some_ticket some_ticket_of
     some_from e =
         let x : Somewhere no_pad (λ pad a. some_at (some_ticket_of kinds test pad) 0 a.programs) t.pads
-        = someAt-elim no_pad (λ pad a. some_at (some_ticket_of kinds test pad) 0 a.programs) t.pads e in
+        = some_at_elim no_pad (λ pad a. some_at (some_ticket_of kinds test pad) 0 a.programs) t.pads e in
         let y : Somewhere no_program (some_ticket_of kinds test x.place) (pad_at t x.place).programs
-        = someAt-elim no_program (some_ticket_of kinds test x.place) (pad_at t x.place).programs x.passes in
+        = some_at_elim no_program (some_ticket_of kinds test x.place) (pad_at t x.place).programs x.passes in
         let w = some_elim free (λ k. kinds k.kind && test (name_of x.place y.place k.number) k) (tickets_of t x.place y.place) y.passes in
         let b' : x.place < 4 = rw z.pads at x.low in
         record {

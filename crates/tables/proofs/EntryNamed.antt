@@ -5,13 +5,13 @@ use Rattle.lists.proofs.Tests.{contradiction, cannot_pass, both_ways, and_l, and
 use Rattle.tables.specs.declared.{Name.Name, Entry.Entry}
 use Rattle.tables.specs.Names.{eq_name}
 use Rattle.tables.specs.Lookup.{is_named}
-use Rattle.tables.proofs.NameLaws.{eqName-true}
+use Rattle.tables.proofs.NameLaws.{eq_name_true}
 
 module _ (e : Entry) (n : Name) where
   pub other_number : (e.name.number ≡ n.number → ⊥) → false ≡ is_named n e
   unfolding is_named
   other_number ne =
-      sym (cannot_pass (e.live && eq_name e.name n) (λ h. ne (ap (λ (m : Name). m.number) (eqName-true e.name n (and_r e.live _ h)))))
+      sym (cannot_pass (e.live && eq_name e.name n) (λ h. ne (ap (λ (m : Name). m.number) (eq_name_true e.name n (and_r e.live _ h)))))
 
   pub other_name : eq_name e.name n ≡ false → false ≡ is_named n e
   unfolding is_named

@@ -11,7 +11,7 @@ use Rattle.tables.specs.declared.{Name.Name, Ticket.Ticket, Entry.Entry, Tables.
 use Rattle.tables.specs.Names.{eq_name, free, no_entry}
 use Rattle.tables.specs.Lookup.{tickets_of, has_number, ticket_in, lookup, is_named, entry_in, entry_of}
 use Rattle.tables.specs.Change.{drop_entry, drop_entries}
-use Rattle.tables.proofs.NameLaws.{eqName-true, eqName-refl}
+use Rattle.tables.proofs.NameLaws.{eq_name_true, eq_name_refl}
 use Rattle.tables.specs.Kinds.{is_live}
 
 abbrev pub ticket_keys : Keys Ticket ℕ
@@ -24,7 +24,7 @@ pub ticket_laws : Lawful ticket_keys
 ticket_laws = record { same_true = eqb-true; same_refl = λ a. eq-eqb a a refl; dead = refl }
 
 pub entry_laws : Lawful entry_keys
-entry_laws = record { same_true = eqName-true; same_refl = eqName-refl; dead = refl }
+entry_laws = record { same_true = eq_name_true; same_refl = eq_name_refl; dead = refl }
 
 -- what a name finds is the keyed list's element of that key
 pub lookup_keyed : (t : Tables) (n : Name) → lookup t n ≡ by_key ticket_keys (tickets_of t n.pad n.program) n.number

@@ -11,28 +11,28 @@ use Rattle.tables.specs.Names.{eq_name, is_program, same_program}
 pub name_eq : {a b : Name} → a.pad ≡ b.pad → a.program ≡ b.program → a.number ≡ b.number → a ≡ b
 name_eq p q r = λ i. record { pad = p i; program = q i; number = r i }
 
-pub eqName-true : (a b : Name) → eq_name a b ≡ true → a ≡ b
+pub eq_name_true : (a b : Name) → eq_name a b ≡ true → a ≡ b
 unfolding eq_name
-eqName-true a b e =
+eq_name_true a b e =
     let p : (eqb a.pad b.pad && eqb a.program b.program) ≡ true = and_l _ (eqb a.number b.number) e in
     name_eq
     (eqb-true a.pad b.pad (and_l _ (eqb a.program b.program) p))
     (eqb-true a.program b.program (and_r (eqb a.pad b.pad) _ p))
     (eqb-true a.number b.number (and_r (eqb a.pad b.pad && eqb a.program b.program) _ e))
 
-pub eqName-refl : (a : Name) → eq_name a a ≡ true
+pub eq_name_refl : (a : Name) → eq_name a a ≡ true
 unfolding eq_name
-eqName-refl a =
+eq_name_refl a =
     rw (eq-eqb a.pad a.pad refl, eq-eqb a.program a.program refl) (eq-eqb a.number a.number refl)
 
-pub eqName-false : (a b : Name) → (a ≡ b → ⊥) → eq_name a b ≡ false
-eqName-false a b ne = cannot_pass (eq_name a b) (λ e. ne (eqName-true a b e))
+pub eq_name_false : (a b : Name) → (a ≡ b → ⊥) → eq_name a b ≡ false
+eq_name_false a b ne = cannot_pass (eq_name a b) (λ e. ne (eq_name_true a b e))
 
-pub eqName-ne : (a b : Name) → eq_name a b ≡ false → a ≡ b → ⊥
-eqName-ne a b e q = no_true (sym e ∙ ap (λ (x : Name). eq_name x b) q ∙ eqName-refl b)
+pub eq_name_ne : (a b : Name) → eq_name a b ≡ false → a ≡ b → ⊥
+eq_name_ne a b e q = no_true (sym e ∙ ap (λ (x : Name). eq_name x b) q ∙ eq_name_refl b)
 
-pub eqName-test : (a b : Name) → a ≡ b → eq_name a b ≡ true
-eqName-test a b e = ap (λ (x : Name). eq_name x b) e ∙ eqName-refl b
+pub eq_name_test : (a b : Name) → a ≡ b → eq_name a b ≡ true
+eq_name_test a b e = ap (λ (x : Name). eq_name x b) e ∙ eq_name_refl b
 
 -- ---- programs
 pub record Possible (p q : ℕ) : Type 0 where

@@ -10,7 +10,7 @@ use lib.Seq.{get_or-set_same, get_or-set_other}
 use borrow.Author.Tests.{eqb-true, eqb-false}
 use Rattle.lists.specs.Lists.{map_at}
 use Rattle.lists.proofs.Tests.{Case, pass, fail, case}
-use Rattle.lists.proofs.Everywhere.{getD-mapAt, length-mapAt}
+use Rattle.lists.proofs.Everywhere.{get_or_map_at, length_map_at}
 use Rattle.lists.proofs.Keyed.{dropped_length}
 use Rattle.tables.specs.declared.{Name.Name, Program.Program, Pad.Pad, Tables.Tables}
 use Rattle.tables.specs.Names.{name_of, same_program, no_program, no_pad}
@@ -32,8 +32,8 @@ module _ (gone : Name → Bool) where
   pub dropped_program : (t : Tables) (p q : ℕ) → program_at (drop_tickets gone t) p q ≡ drop_in_program gone p q (program_at t p q)
   unfolding drop_tickets drop_in_pad
   dropped_program t p q =
-      ap (λ (x : Pad). get_or x.programs q no_program) (getD-mapAt no_pad (drop_in_pad gone) no_pad_lem t.pads p)
-      ∙ getD-mapAt no_program (drop_in_program gone p) (no_program_lem p) (pad_at t p).programs q
+      ap (λ (x : Pad). get_or x.programs q no_program) (get_or_map_at no_pad (drop_in_pad gone) no_pad_lem t.pads p)
+      ∙ get_or_map_at no_program (drop_in_program gone p) (no_program_lem p) (pad_at t p).programs q
 
   pub dropped_tickets : (t : Tables) (p q : ℕ) → tickets_of (drop_tickets gone t) p q ≡ map (drop_ticket gone p q) (tickets_of t p q)
   unfolding drop_in_program
@@ -50,10 +50,10 @@ module _ (gone : Name → Bool) where
   pub dropped_sized : (t : Tables) → Sized t → Sized (drop_tickets gone t)
   unfolding drop_tickets drop_in_pad
   dropped_sized t z = record {
-    pads = length-mapAt (drop_in_pad gone) 0 t.pads ∙ z.pads;
+    pads = length_map_at (drop_in_pad gone) 0 t.pads ∙ z.pads;
     programs = λ p b.
-        ap (λ (x : Pad). length x.programs) (getD-mapAt no_pad (drop_in_pad gone) no_pad_lem t.pads p)
-        ∙ length-mapAt (drop_in_program gone p) 0 (pad_at t p).programs ∙ z.programs p b;
+        ap (λ (x : Pad). length x.programs) (get_or_map_at no_pad (drop_in_pad gone) no_pad_lem t.pads p)
+        ∙ length_map_at (drop_in_program gone p) 0 (pad_at t p).programs ∙ z.programs p b;
     tickets = λ p q b c. ap length (dropped_tickets t p q) ∙ tickets_length t p q ∙ z.tickets p q b c;
     entries = z.entries;
   }

@@ -109,9 +109,14 @@ fn say(rt: &impl Print, ok: bool, name: &str) -> io::Result<()> {
     }
 }
 
+// Runs the case of this name.
+fn run_case(rt: &(impl Files + Alloc + Print), name: &str) -> io::Result<()> {
+    say(rt, holds(rt, name)?, name)
+}
+
 fn main(rt: HostRuntime) -> io::Result<()> {
     for name in env::args(&rt)?.skip(1) {
-        say(&rt, holds(&rt, &name)?, &name)?;
+        run_case(&rt, &name)?;
     }
     Ok(())
 }

@@ -9,7 +9,7 @@ use Rattle.tables.specs.Kinds.{is_child}
 use Rattle.tables.specs.Names.{free}
 use Rattle.image_read.specs.Places.{tickets_in}
 use Rattle.image_read.proofs.Places.{tickets_long}
-use Rattle.order_lists.proofs.Laws.{listed-allAt, listed_broken, Filled, filled_none, filled_at, filled_end}
+use Rattle.order_lists.proofs.Laws.{listed_all_at, listed_broken, Filled, filled_none, filled_at, filled_end}
 use Rattle.order_children.specs.Parts.{child_ok, children_ok}
 use Rattle.order_children.proofs.Children.{up_of, no_child, no_child_up, no_parent, by_parent, parent_up}
 use Rattle.order_children.proofs.children_ok.Goals as goal
@@ -109,7 +109,7 @@ returns c =
     let ks = tickets_in c.args.image.now in
     let listing = c.requires.1.1.0 in (
       sym
-          (listed-allAt free (λ k. is_child k.kind) ks 256 _ _ listing (child_ok ks c.args.numbers.now) (tickets_long c.args.image.now)
+          (listed_all_at free (λ k. is_child k.kind) ks 256 _ _ listing (child_ok ks c.args.numbers.now) (tickets_long c.args.image.now)
           (λ j h. c.loop-i.invariant.1.0 j (omega arith)) (λ q k e. no_child c.args.numbers.now k e ks q)),
       λ z. record {
         long = c.loop-i.invariant.1.1.long;

@@ -6,7 +6,7 @@ use borrow.Author.Count.{below_more}
 use Rattle.lists.proofs.Tests.{implies_intro}
 use Rattle.tables.specs.Kinds.{is_child}
 use Rattle.tables.specs.Names.{free}
-use Rattle.order_lists.proofs.Laws.{listed-allAt, listed_broken}
+use Rattle.order_lists.proofs.Laws.{listed_all_at, listed_broken}
 use Rattle.order_children.specs.Parts.{heads_ok}
 use Rattle.order_children.proofs.Children.{headed, no_head_asked, head_missed, head_found}
 use Rattle.order_children.proofs.heads_ok.Goals as goal
@@ -34,5 +34,5 @@ pub returns : goal.returns
 unfolding heads_ok
 returns c =
     λ ks z l. sym
-    (listed-allAt free (λ k. is_child k.kind) ks 256 _ _ l (headed c.args.up.now) z (λ j h. implies_intro _ _ (λ _. c.loop-i.invariant.1 j (omega arith)))
+    (listed_all_at free (λ k. is_child k.kind) ks 256 _ _ l (headed c.args.up.now) z (λ j h. implies_intro _ _ (λ _. c.loop-i.invariant.1 j (omega arith)))
     (no_head_asked c.args.up.now))
