@@ -68,6 +68,7 @@ pub fn pass_ticket(k: Ticket, r: Request) -> u16
 }
 
 // A pass, by the seats of asker and recipient, and whether the dock has lost the ticket's entry: 9, 10, 12 or 0.
+#[tactic(auto, using(crate::proofs::Room::room_links))]
 pub fn pass_room(p: Seat, q: Seat, lost: bool) -> u16
     ensures { result ≡ pass_room_refusal p q lost }
 {

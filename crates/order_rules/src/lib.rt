@@ -115,6 +115,7 @@ pub fn parent_ok(n: Name, k: Ticket, parent: Ticket) -> bool
 }
 
 // T5, taken if the parent is the store, else received.
+#[tactic(auto, using(std::proofs::lemmas::Bool::Decides::nat_tests), unfolding(tables::specs::Names::eq_name))]
 fn kind_ok(e: Entry, kind: Kind) -> bool
     ensures { result ≡ cond (under_store e) (eq_name e.parent no_name && is_taken kind) (is_received kind) }
 {

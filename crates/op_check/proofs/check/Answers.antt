@@ -1,4 +1,5 @@
 -- Each answer by the tests that lead to it.
+use native.Mathlib.Omega.{arith}
 use mathlib.Core.Path.{refl, sym, ap, ◌∙◌}
 use mathlib.Core.Bool.{not}
 use Rattle.rights.specs.declared.Rights.{Rights}
@@ -25,27 +26,27 @@ returns-then-right-gt2 c =
 pub returns-then-not-e : goal.returns-then-not-e
 returns-then-not-e c =
     let a = c.args in
-    let range = well a.sheet a.right c.if-sheet-gt255.false c.if-right-lt1.false c.if-right-gt2.false in
+    let range = well a.sheet a.right (omega arith) c.if-right-lt1.false c.if-right-gt2.false in
     λ t n q. by_entry t n a.sheet a.right q (past 3 range (here _ c.if-not-e.true))
 
 pub returns-then-sheet-first : goal.returns-then-sheet-first
 returns-then-sheet-first c =
     let a = c.args in
-    let range = well a.sheet a.right c.if-sheet-gt255.false c.if-right-lt1.false c.if-right-gt2.false in
+    let range = well a.sheet a.right (omega arith) c.if-right-lt1.false c.if-right-gt2.false in
     λ t n q. by_entry t n a.sheet a.right q
     (past 3 range (past 12 c.if-not-e.false (here _ (before_it a.sheet a.e.first a.e.count c.if-sheet-first.true))))
 
 pub returns-then-first-count : goal.returns-then-first-count
 returns-then-first-count c =
     let a = c.args in
-    let range = well a.sheet a.right c.if-sheet-gt255.false c.if-right-lt1.false c.if-right-gt2.false in
+    let range = well a.sheet a.right (omega arith) c.if-right-lt1.false c.if-right-gt2.false in
     λ t n q. by_entry t n a.sheet a.right q
     (past 3 range (past 12 c.if-not-e.false (here _ (after_it a.sheet a.e.first a.e.count c.if-first-count.true))))
 
 pub returns-then-not-contains : goal.returns-then-not-contains
 returns-then-not-contains c =
     let a = c.args in
-    let range = well a.sheet a.right c.if-sheet-gt255.false c.if-right-lt1.false c.if-right-gt2.false in
+    let range = well a.sheet a.right (omega arith) c.if-right-lt1.false c.if-right-gt2.false in
     let within_it = in_it a.sheet a.e.first a.e.count c.if-sheet-first.false c.if-first-count.false in
     let held = ap (λ (x : Rights). within x a.e.rights) (sym c.make-asked.ensures) ∙ sym c.contains.ensures in
     λ t n q. by_entry t n a.sheet a.right q
@@ -54,7 +55,7 @@ returns-then-not-contains c =
 pub returns : goal.returns
 returns c =
     let a = c.args in
-    let range = well a.sheet a.right c.if-sheet-gt255.false c.if-right-lt1.false c.if-right-gt2.false in
+    let range = well a.sheet a.right (omega arith) c.if-right-lt1.false c.if-right-gt2.false in
     let within_it = in_it a.sheet a.e.first a.e.count c.if-sheet-first.false c.if-first-count.false in
     let held = ap (λ (x : Rights). within x a.e.rights) (sym c.make-asked.ensures) ∙ sym c.contains.ensures in
     λ t n q. by_entry t n a.sheet a.right q

@@ -17,23 +17,23 @@ returns-then-m-lt32 c =
 pub put_tickets-requires : goal.put_tickets-requires
 put_tickets-requires c =
     let m = c.args.m in
-    let is = block_tickets (decode c.args.image.now) m c.if-m-lt32.false (omega (arith, c.if-m-lt160.true)) in
+    let is = block_tickets (decode c.args.image.now) m c.if-m-lt32.false (omega arith) in
     (c.requires.0, ((omega arith, (omega (arith, c.if-m-lt32.false), omega (arith, c.if-m-lt160.true))), block_room _ m _ is _ c.requires.1.1))
 
 pub returns-then-m-lt160 : goal.returns-then-m-lt160
 returns-then-m-lt160 c =
     let m = c.args.m in
-    let is = block_tickets (decode c.args.image.now) m c.if-m-lt32.false (omega (arith, c.if-m-lt160.true)) in
+    let is = block_tickets (decode c.args.image.now) m c.if-m-lt32.false (omega arith) in
     block_put _ m _ is _ _ _ _ c.put_tickets.ensures
 
 pub put_entries-requires : goal.put_entries-requires
 put_entries-requires c =
     let m = c.args.m in
-    let is = block_entries (decode c.args.image.now) m (omega (arith, c.if-m-lt160.false)) in
+    let is = block_entries (decode c.args.image.now) m (omega arith) in
     (c.requires.0, ((c.requires.1.0.0, omega arith), block_room _ m _ is _ c.requires.1.1))
 
 pub returns : goal.returns
 returns c =
     let m = c.args.m in
-    let is = block_entries (decode c.args.image.now) m (omega (arith, c.if-m-lt160.false)) in
+    let is = block_entries (decode c.args.image.now) m (omega arith) in
     block_put _ m _ is _ _ _ _ c.put_entries.ensures
