@@ -5,7 +5,8 @@
 
 #![tactic(auto)]
 
-ghost use Rattle.std.specs.Prelude.{◌≡◌, ◌<◌, length, eqb};
+ghost use Rattle.std.specs.Prelude.{◌≡◌, ◌<◌, ◌/◌, ◌%◌, length, eqb};
+ghost use Rattle.tables.specs.Names.{name_of};
 ghost use Rattle.lists.specs.Lists.{first_index};
 ghost use Rattle.image_places.specs.Places.{number_of, place_in};
 ghost use Rattle.image_places.specs.Walk.{end_from, leads_to};
@@ -25,6 +26,18 @@ pub fn wide(x: u16) -> usize
 }
 
 // ---- names
+
+// The name of the ticket of that number at a place.
+pub fn name_at(place: usize, number: u16) -> Name
+    requires { place < 256 }
+    ensures { result ≡ name_of (place / 64) (place / 8 % 8) number }
+{
+    Name {
+        pad: (place / PAD) as u16,
+        program: (place / PROGRAM % 8) as u16,
+        number,
+    }
+}
 
 // A ticket's number, 0 in a free place.
 pub fn number_of(k: Ticket) -> u16

@@ -1,5 +1,6 @@
 -- Laws of a chain of refusals: link by link, what an answer at its end says of the tests before it; and where two chains agree.
 use Prim.Native.Nat.{ℕ, ◌≤◌}
+use native.Mathlib.Omega.{arith}
 use mathlib.Core.Path.{◌≡◌, refl}
 use mathlib.Core.Bool.{Bool, true, false, not}
 use lib.Dec.{eqb}
@@ -12,10 +13,33 @@ use Rattle.tables.specs.Names.{is_program}
 use Rattle.tables.proofs.KindLaws.{grant_of}
 use Rattle.machine.specs.declared.Request.{Request}
 use Rattle.machine.specs.State.{State, refused}
-use Rattle.machine.specs.Refusal.{◌when◌else◌}
+use Rattle.machine.specs.declared.Refusal.{Refusal}
+use Rattle.machine.specs.declared.Refusal.TheVariants.{NoProgram, NoOperation, Field, NoTicket, WrongKind, Beyond, RightLacking, ToOneself, NoPlace, NoNumber, NoRun, NoEntry, Length, NotInOrder, OtherForm, Scratch, TooShort, BadText}
+use Rattle.machine.specs.Refusal.{◌when◌else◌, number_of}
 use Rattle.machine.specs.Operation.{operation_of, used_by, fields_ok}
 use Rattle.machine.specs.Step.{own_refusal, request_refusal, lengths_ok, refusal, outcome, step}
 use Rattle.tables.specs.Kinds.{is_live, is_grant, is_recall}
+
+-- no refusal's number is 0, which says that a call is done
+pub never_zero : (refusal : Refusal) → number_of refusal ≡ 0 → ⊥
+never_zero NoProgram e = omega arith
+never_zero NoOperation e = omega arith
+never_zero Field e = omega arith
+never_zero NoTicket e = omega arith
+never_zero WrongKind e = omega arith
+never_zero Beyond e = omega arith
+never_zero RightLacking e = omega arith
+never_zero ToOneself e = omega arith
+never_zero NoPlace e = omega arith
+never_zero NoNumber e = omega arith
+never_zero NoRun e = omega arith
+never_zero NoEntry e = omega arith
+never_zero Length e = omega arith
+never_zero NotInOrder e = omega arith
+never_zero OtherForm e = omega arith
+never_zero Scratch e = omega arith
+never_zero TooShort e = omega arith
+never_zero BadText e = omega arith
 
 -- the answer came later: the test failed
 pub when_past : (n : ℕ) (b : Bool) (later c : ℕ) → (n ≡ c → ⊥) → (n when b else later) ≡ c → (b ≡ false) × (later ≡ c)

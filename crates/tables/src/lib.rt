@@ -5,8 +5,9 @@
 
 ghost use Rattle.std.specs.Prelude.{◌≡◌};
 ghost use Rattle.tables.specs.Kinds.{is_live, is_grant, is_head, is_taken, is_received, is_child, is_recall};
-ghost use Rattle.tables.specs.Names.{eq_name, no_name, free, no_entry};
+ghost use Rattle.tables.specs.Names.{no_name, free, no_entry};
 ghost use Rattle.tables.specs.Lookup.{has_number, is_named};
+ghost use Rattle.tables.specs.Chains.{parent_by};
 
 use rights::Rights;
 
@@ -25,90 +26,48 @@ impl Kind {
     pub fn is_live(self) -> bool
         ensures { result ≡ is_live self }
     {
-        match self {
-            Kind::Free => false,
-            Kind::Taken => true,
-            Kind::Received => true,
-            Kind::Child => true,
-            Kind::Recall => true,
-        }
+        !matches!(self, Kind::Free)
     }
 
     pub fn is_grant(self) -> bool
         ensures { result ≡ is_grant self }
     {
-        match self {
-            Kind::Free => false,
-            Kind::Taken => true,
-            Kind::Received => true,
-            Kind::Child => true,
-            Kind::Recall => false,
-        }
+        matches!(self, Kind::Taken | Kind::Received | Kind::Child)
     }
 
     pub fn is_head(self) -> bool
         ensures { result ≡ is_head self }
     {
-        match self {
-            Kind::Free => false,
-            Kind::Taken => true,
-            Kind::Received => true,
-            Kind::Child => false,
-            Kind::Recall => false,
-        }
+        matches!(self, Kind::Taken | Kind::Received)
     }
 
     pub fn is_taken(self) -> bool
         ensures { result ≡ is_taken self }
     {
-        match self {
-            Kind::Free => false,
-            Kind::Taken => true,
-            Kind::Received => false,
-            Kind::Child => false,
-            Kind::Recall => false,
-        }
+        matches!(self, Kind::Taken)
     }
 
     pub fn is_received(self) -> bool
         ensures { result ≡ is_received self }
     {
-        match self {
-            Kind::Free => false,
-            Kind::Taken => false,
-            Kind::Received => true,
-            Kind::Child => false,
-            Kind::Recall => false,
-        }
+        matches!(self, Kind::Received)
     }
 
     pub fn is_child(self) -> bool
         ensures { result ≡ is_child self }
     {
-        match self {
-            Kind::Free => false,
-            Kind::Taken => false,
-            Kind::Received => false,
-            Kind::Child => true,
-            Kind::Recall => false,
-        }
+        matches!(self, Kind::Child)
     }
 
     pub fn is_recall(self) -> bool
         ensures { result ≡ is_recall self }
     {
-        match self {
-            Kind::Free => false,
-            Kind::Taken => false,
-            Kind::Received => false,
-            Kind::Child => false,
-            Kind::Recall => true,
-        }
+        matches!(self, Kind::Recall)
     }
 }
 
 // Pad, program and ticket number. An entry has the name of the taken or received grant that it was made for.
-#[derive(Clone, Copy)]
+#[derive(Clone, Copy, PartialEq, Eq)]
 pub struct Name {
     pub pad: u16,
     pub program: u16,
@@ -125,18 +84,6 @@ impl Name {
             program: 0,
             number: 0,
         }
-    }
-
-    pub fn is(self, other: Name) -> bool
-        ensures { result ≡ eq_name self other }
-    {
-        if self.pad != other.pad {
-            return false;
-        }
-        if self.program != other.program {
-            return false;
-        }
-        self.number == other.number
     }
 }
 
@@ -159,11 +106,7 @@ impl Ticket {
     pub fn free() -> Ticket
         ensures { result ≡ free }
     {
-        let none = Name {
-            pad: 0,
-            program: 0,
-            number: 0,
-        };
+        let none = Name::none();
         Ticket {
             kind: Kind::Free,
             number: 0,
@@ -176,15 +119,26 @@ impl Ticket {
         }
     }
 
+    // The name of the parent of this ticket, which is named n: a child says it, a recall stands in its own program.
+    pub fn parent(self, n: Name) -> Name
+        ensures { result ≡ parent_by self.kind n self }
+    {
+        match self.kind {
+            Kind::Free | Kind::Taken | Kind::Received => Name::none(),
+            Kind::Child => self.other,
+            Kind::Recall => Name {
+                number: self.own,
+                ..n
+            },
+        }
+    }
+
     // Is it live, and its number that one?
+    #[tactic(auto, unfolding(crate::specs::Lookup::has_number))]
     pub fn has_number(self, number: u16) -> bool
         ensures { result ≡ has_number number self }
     {
-        let kind = self.kind;
-        if !kind.is_live() {
-            return false;
-        }
-        self.number == number
+        self.kind.is_live() && self.number == number
     }
 }
 
@@ -217,11 +171,7 @@ impl Entry {
     pub fn none() -> Entry
         ensures { result ≡ no_entry }
     {
-        let none = Name {
-            pad: 0,
-            program: 0,
-            number: 0,
-        };
+        let none = Name::none();
         Entry {
             live: false,
             name: none,
@@ -233,17 +183,11 @@ impl Entry {
     }
 
     // Is it the live entry of that name? The number is asked first: it tells most entries apart.
+    #[tactic(auto, unfolding(crate::specs::Lookup::is_named, crate::specs::Names::eq_name))]
     pub fn is_named(self, n: Name) -> bool
         ensures { result ≡ is_named n self }
     {
-        let name = self.name;
-        if name.number != n.number {
-            return false;
-        }
-        if name.is(n) {
-            return self.live;
-        }
-        false
+        self.name.number == n.number && self.name == n && self.live
     }
 }
 
