@@ -5,7 +5,7 @@
 
 ghost use Rattle.std.specs.Prelude.{◌≡◌};
 ghost use Rattle.tables.specs.Kinds.{is_live, is_grant, is_head, is_taken, is_received, is_child, is_recall};
-ghost use Rattle.tables.specs.Names.{no_name, free, no_entry};
+ghost use Rattle.tables.specs.Names.{no_name, is_program, free, no_entry};
 ghost use Rattle.tables.specs.Lookup.{has_number, is_named};
 ghost use Rattle.tables.specs.Chains.{parent_by};
 
@@ -84,6 +84,14 @@ impl Name {
             program: 0,
             number: 0,
         }
+    }
+
+    // Does a program of a pad bear it? There are pads 0 to 3, with programs 0 to 7 each.
+    #[tactic(auto, unfolding(crate::specs::Names::is_program))]
+    pub fn is_of_program(self) -> bool
+        ensures { result ≡ is_program self.pad self.program }
+    {
+        self.pad <= 3 && self.program <= 7
     }
 }
 
