@@ -11,6 +11,7 @@ ghost use Rattle.rights.specs.Chart.{charted};
 const CHART: u64 = 0b10000000_11000000_10100000_11110000_10001000_11001100_10101010_11111111;
 
 // The chart's answer for the three bits of each number.
+#[tactic(auto, using(crate::proofs::Chart::word_is_chart), unfolding(crate::proofs::Chart::word, crate::specs::Chart::chart, lists::specs::Parts::joined))]
 fn charted(asked: u16, held: u16) -> bool
     ensures { result ≡ charted (asked % 8) (held % 8) }
 {
@@ -20,7 +21,7 @@ fn charted(asked: u16, held: u16) -> bool
 }
 
 // Any number is taken as it stands. Which numbers are good rights, 1 to 7, is for the tables' rule T2 and the request's ranges.
-#[derive(Clone, Copy)]
+#[derive(Clone, Copy, PartialEq, Eq)]
 pub struct Rights {
     pub bits: u16,
 }
@@ -39,6 +40,7 @@ impl Rights {
     }
 
     // Does `self` have every right that `asked` has? The chart says it.
+    #[tactic(auto, using(crate::proofs::Chart::charted_is_within))]
     pub fn contains(self, asked: Rights) -> bool
         ensures { result ≡ within asked self }
     {
