@@ -11,19 +11,19 @@ use lib.ListN.{length, get_or, take, drop, length-drop, length-map, get_or-map, 
 use lib.Seq.{length-take-le, get_or-take, get_or-drop, ext_get_or}
 use borrow.Author.Tests.{ltb-true, ltb-false, eqb-true, eqb-false, eq-eqb, ne_eqb}
 use Rattle.lists.specs.Lists.{first_index}
-use Rattle.lists.proofs.Tests.{Case, pass, fail, case, and_l, and_r, and_intro, cannot_pass, no_true}
+use Rattle.lists.proofs.Tests.{Case, pass, fail, case, contradiction, and_l, and_r, and_intro, cannot_pass, no_true}
 use Rattle.lists.proofs.Search.{find_passes, first_bound, first_same, first_map}
 use Rattle.lists.proofs.Keyed.{nothing_found}
 use Rattle.tables.specs.declared.{Name.Name, Kind.Kind, Ticket.Ticket, Pad.Pad, Tables.Tables}
-use Rattle.tables.specs.Names.{name_of, free, no_pad, no_program}
+use Rattle.tables.specs.Names.{name_of, is_program, free, no_pad, no_program}
 use Rattle.tables.specs.Lookup.{Sized, tickets_of, has_number, ticket_in, lookup}
 use Rattle.tables.specs.Order.{every_ticket, some_ticket}
-use Rattle.tables.proofs.NameLaws.{name_eq}
+use Rattle.tables.proofs.NameLaws.{name_eq, is_program_lem, program_possible}
 use Rattle.tables.proofs.Keys.{ticket_keys, ticket_laws}
-use Rattle.tables.proofs.ByPlace.{ticket_at, place_low_lem, found_number, name_in_range, every_at, every_from, some_at_lem, some_from}
+use Rattle.tables.proofs.ByPlace.{InRange, ticket_at, place_low_lem, found_number, name_in_range, every_at, every_from, some_at_lem, some_from}
 use Rattle.image_places.specs.Places.{placed, name_at, number_of, start_of, place_in, Numbered}
 use Rattle.image_places.proofs.Laying.{at_place}
-use Rattle.image_places.proofs.PlaceSteps.{no_pad_lem, no_program_lem, no_number, not_there, is_there}
+use Rattle.image_places.proofs.PlaceSteps.{no_program_lem, no_number, not_there, is_there}
 use Rattle.tables.specs.Kinds.{is_live}
 
 -- ---- every ticket, or some, by place
@@ -147,28 +147,26 @@ module _ (t : Tables) (numbers : List ℕ) (ix : Numbered t numbers) where
   dead_free n h = nothing_found ticket_keys ticket_laws (tickets_of t n.pad n.program) n.number (cannot_pass _ h)
 
   where_is : (n : Name) → There n ⊎ Nowhere n
-  where_is n = by_pad (case (ltb n.pad 4))
+  where_is n = by_program (case (is_program n.pad n.program))
     where
-      none : 256 ≡ place_in numbers n → (is_live (lookup t n).kind ≡ true → ⊥) → There n ⊎ Nowhere n
-      none e h = inr (record { nothing = dead_free n h; at = sym e })
+      none : place_in numbers n ≡ 256 → (is_live (lookup t n).kind ≡ true → ⊥) → There n ⊎ Nowhere n
+      none e h = inr (record { nothing = dead_free n h; at = e })
 
-      by_spot : (b : n.pad < 4) (c : n.program < 8) → (n.number ≡ 0 → ⊥) → Case (ltb (spot n b c) 8) → There n ⊎ Nowhere n
-      by_spot b c z (pass e) =
+      by_spot : (p : is_program n.pad n.program ≡ true) (b : n.pad < 4) (c : n.program < 8) → (n.number ≡ 0 → ⊥) → Case (ltb (spot n b c) 8) → There n ⊎ Nowhere n
+      by_spot p b c z (pass e) =
           inl
           (record {
             pad = b;
             program = c;
             spot_low = ltb-true (spot n b c) 8 e;
-            at = sym (is_there numbers n (omega arith) (omega arith) z (spot n b c) (spot_there n b c z) (ltb-true (spot n b c) 8 e));
+            at = is_there numbers n p z (spot n b c) (spot_there n b c z) (ltb-true (spot n b c) 8 e);
           })
-      by_spot b c z (fail e) =
-          none
-          (not_there numbers n (omega arith) (omega arith) z (spot n b c) (spot_there n b c z) (ltb-false (spot n b c) 8 e))
+      by_spot p b c z (fail e) =
+          none (not_there numbers n p z (spot n b c) (spot_there n b c z) (ltb-false (spot n b c) 8 e))
           (λ l. let s : spot n b c < 8 = subst (λ (m : ℕ). spot n b c < m) (eight n b c) (place_low_lem t ix.sized n l) in omega (arith, s, ltb-false (spot n b c) 8 e))
 
-      by_number : (b : n.pad < 4) (c : n.program < 8) → Case (eqb n.number 0) → There n ⊎ Nowhere n
-      by_number b c (pass e) =
-          none (no_number numbers n (omega arith) (omega arith) (eqb-true n.number 0 e)) (zero_dead b c (eqb-true n.number 0 e))
+      by_number : (p : is_program n.pad n.program ≡ true) (b : n.pad < 4) (c : n.program < 8) → Case (eqb n.number 0) → There n ⊎ Nowhere n
+      by_number p b c (pass e) = none (no_number numbers n p (eqb-true n.number 0 e)) (zero_dead b c (eqb-true n.number 0 e))
         where
           zero_dead : (b : n.pad < 4) (c : n.program < 8) → n.number ≡ 0 → is_live (lookup t n).kind ≡ true → ⊥
           zero_dead b c z l =
@@ -179,19 +177,16 @@ module _ (t : Tables) (numbers : List ℕ) (ix : Numbered t numbers) where
               let w = ix.low (start_of n + spot n b c) (omega arith) (subst (λ (x : Ticket). is_live x.kind ≡ true) k l) in
               let v : (lookup t n).number ≡ (placed t (start_of n + spot n b c)).number = ap (λ (x : Ticket). x.number) k in
               omega (arith, w, v, f, z)
-      by_number b c (fail e) = by_spot b c (eqb-false n.number 0 e) (case (ltb (spot n b c) 8))
+      by_number p b c (fail e) = by_spot p b c (eqb-false n.number 0 e) (case (ltb (spot n b c) 8))
 
-      by_program : n.pad < 4 → Case (ltb n.program 8) → There n ⊎ Nowhere n
-      by_program b (pass e) = by_number b (ltb-true n.program 8 e) (case (eqb n.number 0))
-      by_program b (fail e) =
-          let h = ltb-false n.program 8 e in
-          none (no_program_lem numbers n (omega arith) (omega arith)) (λ l. omega (arith, (name_in_range t ix.sized n l).program, h))
-
-      by_pad : Case (ltb n.pad 4) → There n ⊎ Nowhere n
-      by_pad (pass e) = by_program (ltb-true n.pad 4 e) (case (ltb n.program 8))
-      by_pad (fail e) =
-          let h = ltb-false n.pad 4 e in
-          none (no_pad_lem numbers n (omega arith)) (λ l. omega (arith, (name_in_range t ix.sized n l).pad, h))
+      by_program : Case (is_program n.pad n.program) → There n ⊎ Nowhere n
+      by_program (pass p) =
+          let q = is_program_lem n.pad n.program p in
+          by_number p (omega (arith, q.pad)) (omega (arith, q.program)) (case (eqb n.number 0))
+      by_program (fail e) = none (no_program_lem numbers n e) (λ l. contradiction (in_range (name_in_range t ix.sized n l)) e)
+        where
+          in_range : InRange n → is_program n.pad n.program ≡ true
+          in_range q = program_possible n.pad n.program (omega (arith, q.pad)) (omega (arith, q.program))
 
   -- what stands at no place is the free record
   none_past : placed t 256 ≡ free
@@ -285,5 +280,5 @@ module _ (t : Tables) (numbers : List ℕ) (ix : Numbered t numbers) where
       let c : p / 8 % 8 < 8 = omega arith in
       let s : spot n b c ≡ p % 8 = same_spot p h l b c in
       let e : place_in numbers n ≡ start_of n + spot n b c
-      = sym (is_there numbers n (omega arith) (omega arith) (λ z. omega (arith, ix.low p h l, z)) (spot n b c) (spot_there n b c (λ z. omega (arith, ix.low p h l, z))) (omega arith)) in
+      = is_there numbers n (program_possible n.pad n.program (omega arith) (omega arith)) (λ z. omega (arith, ix.low p h l, z)) (spot n b c) (spot_there n b c (λ z. omega (arith, ix.low p h l, z))) (omega arith) in
       omega (arith, e, s)

@@ -1,7 +1,7 @@
 -- A search from the end back to the front: after the places from i on, the lowest of them that passes, or the length.
 use Prim.Native.Nat.{ℕ, suc, ◌+◌, ◌-◌, ◌≤◌, ◌<◌}
 use native.Mathlib.Omega.{arith}
-use mathlib.Core.Path.{◌≡◌, ap, subst, ◌∙◌}
+use mathlib.Core.Path.{◌≡◌, ap, ◌∙◌}
 use mathlib.Core.Bool.{Bool, true, false, cond}
 use mathlib.Core.List.{List}
 use lib.ListN.{length, get_or, drop, drop_of_length-le}
@@ -33,6 +33,3 @@ module _ {A : Type 0} (f : A → Bool) (l : List A) (d : A) where
 
     pub lowest_miss : f (get_or l (i - 1) d) ≡ false → Lowest (i - 1) found
     lowest_miss e = let q = here false e in omega arith
-
-  pub lowest_end : (i found : ℕ) → i ≡ 0 → Lowest i found → found ≡ first_index f l
-  lowest_end i found z so = subst (λ (j : ℕ). Lowest j found) z so ∙ omega arith

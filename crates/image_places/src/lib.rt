@@ -18,13 +18,6 @@ pub const PAD: usize = 64;
 
 pub const PROGRAM: usize = 8;
 
-// A place as an index.
-pub fn wide(x: u16) -> usize
-    ensures { result ≡ x }
-{
-    x as usize
-}
-
 // ---- names
 
 // The name of the ticket of that number at a place.
@@ -40,14 +33,11 @@ pub fn name_at(place: usize, number: u16) -> Name
 }
 
 // A ticket's number, 0 in a free place.
+#[tactic(auto, unfolding(crate::specs::Places::number_of))]
 pub fn number_of(k: Ticket) -> u16
     ensures { result ≡ number_of k }
 {
-    let kind = k.kind;
-    if kind.is_live() {
-        return k.number;
-    }
-    0
+    if k.kind.is_live() { k.number } else { 0 }
 }
 
 // The first place of a number, or the length where it has none. The walk goes back from the end and never stops early: over a program's
@@ -56,9 +46,7 @@ pub fn index_of(numbers: &[u16], number: u16) -> usize
     ensures { result ≡ first_index (λ x. eqb x number) numbers.now }
 {
     let mut found = numbers.len();
-    let mut i = numbers.len();
-    while 0 < i {
-        i = i - 1;
+    for i in (0..numbers.len()).rev() {
         if numbers[i] == number {
             found = i;
         }
@@ -67,32 +55,24 @@ pub fn index_of(numbers: &[u16], number: u16) -> usize
 }
 
 // The place of the live ticket of a name, or 256.
+#[tactic(auto, unfolding(crate::specs::Places::place_in, tables::specs::Names::is_program))]
 pub fn place_of(numbers: &[u16], n: Name) -> usize
     requires { length numbers.now ≡ 256 }
     ensures { result ≡ place_in numbers.now n }
 {
-    if 3 < n.pad {
+    if !n.is_of_program() || n.number == 0 {
         return 256;
     }
-    if 7 < n.program {
-        return 256;
-    }
-    if n.number == 0 {
-        return 256;
-    }
-    let from = 64 * n.pad as usize + 8 * n.program as usize;
-    let to = from + 8;
-    let i = index_of(&numbers[from..to], n.number);
-    if 8 <= i {
-        return 256;
-    }
-    from + i
+    let from = PAD * usize::from(n.pad) + PROGRAM * usize::from(n.program);
+    let i = index_of(&numbers[from..from + PROGRAM], n.number);
+    if i < PROGRAM { from + i } else { 256 }
 }
 
 // ---- chains
 
 // The end of the chain from a place, which has no parent: the recursive walk from a child to the head of its chain, with the places
 // left falling. No place where those do not suffice.
+#[tactic(auto, using(crate::proofs::WalkSteps::end_step), unfolding(crate::specs::Walk::end_from))]
 pub fn end_from(up: &[u16], at: usize, left: usize) -> usize
     requires { at < length up.now }
     ensures { result ≡ end_from left up.now at }
@@ -100,14 +80,16 @@ pub fn end_from(up: &[u16], at: usize, left: usize) -> usize
     if left == 0 {
         return up.len();
     }
-    let next = wide(up[at]);
-    if up.len() <= next {
-        return at;
+    let next = usize::from(up[at]);
+    if next < up.len() {
+        end_from(up, next, left - 1)
+    } else {
+        at
     }
-    end_from(up, next, left - 1)
 }
 
 // Is the place x, or does its chain come to x?
+#[tactic(auto, using(crate::proofs::WalkSteps::leads_step), unfolding(crate::specs::Walk::leads_to))]
 pub fn leads_to(up: &[u16], at: usize, x: usize, left: usize) -> bool
     requires { at < length up.now }
     ensures { result ≡ leads_to left up.now x at }
@@ -118,9 +100,6 @@ pub fn leads_to(up: &[u16], at: usize, x: usize, left: usize) -> bool
     if at == x {
         return true;
     }
-    let next = wide(up[at]);
-    if up.len() <= next {
-        return false;
-    }
-    leads_to(up, next, x, left - 1)
+    let next = usize::from(up[at]);
+    next < up.len() && leads_to(up, next, x, left - 1)
 }
