@@ -17,19 +17,11 @@ use image::{
 use rights::Rights;
 use tables::{Entry, Kind, Name, Program, Ticket};
 
-fn wide(b: u8) -> u16
-    ensures { (result ≡ b) × (result < 256) }
-{
-    b as u16
-}
-
 fn number_at(bytes: &[u8], at: usize) -> u16
     requires { at + 2 ≤ length bytes.now }
     ensures { result ≡ number_at at bytes.now }
 {
-    let low = wide(bytes[at]);
-    let high = wide(bytes[at + 1]);
-    low + 256 * high
+    u16::from_le_bytes([bytes[at], bytes[at + 1]])
 }
 
 fn name_at(bytes: &[u8], at: usize) -> Name
@@ -43,7 +35,8 @@ fn name_at(bytes: &[u8], at: usize) -> Name
     }
 }
 
-// The kind that a number says.
+// The kind that a number says. It is no `From` beside `Kind`: which number says which kind is the image's.
+#[tactic(auto, unfolding(image::specs::Image::kind_of))]
 pub fn kind_of(n: u16) -> Kind
     ensures { result ≡ kind_of n }
 {
@@ -56,72 +49,63 @@ pub fn kind_of(n: u16) -> Kind
     }
 }
 
+#[tactic(auto, unfolding(image::specs::Image::read_ticket))]
 fn ticket_in(bytes: &[u8]) -> Ticket
     requires { ticket_size ≤ length bytes.now }
     ensures { result ≡ read_ticket bytes.now }
 {
-    let kind = kind_of(number_at(bytes, TICKET_KIND));
-    let other = name_at(bytes, TICKET_OTHER);
-    let dock = name_at(bytes, TICKET_DOCK);
-    let rights = Rights::make(number_at(bytes, TICKET_RIGHTS));
     Ticket {
-        kind: kind,
+        kind: kind_of(number_at(bytes, TICKET_KIND)),
         number: number_at(bytes, TICKET_NUMBER),
         own: number_at(bytes, TICKET_OWN),
-        other: other,
+        other: name_at(bytes, TICKET_OTHER),
         first: number_at(bytes, TICKET_FIRST),
         count: number_at(bytes, TICKET_COUNT),
-        rights: rights,
-        dock: dock,
+        rights: Rights::make(number_at(bytes, TICKET_RIGHTS)),
+        dock: name_at(bytes, TICKET_DOCK),
     }
 }
 
+#[tactic(auto, using(lists::proofs::Laid::laid_none, lists::proofs::Laid::one_more, lists::proofs::Front::rest_part))]
 fn program_in(bytes: &[u8]) -> Program
     requires { program_size ≤ length bytes.now }
     ensures { result ≡ read_program bytes.now }
 {
-    let free = Ticket::free();
-    let mut tickets = [free; 8];
-    let mut i: usize = 0;
-    while i < 8 {
-        let at = TICKET * i;
-        let k = ticket_in(&bytes[at..]);
-        tickets[i] = k;
-        i = i + 1;
+    // A loop, since `std::array::from_fn` does not promise what the closure still has of `bytes` at each call.
+    let mut tickets = [Ticket::free(); 8];
+    for (i, k) in tickets.iter_mut().enumerate() {
+        *k = ticket_in(&bytes[TICKET * i..]);
     }
     Program {
-        tickets: tickets,
+        tickets,
         last: number_at(bytes, PROGRAM_LAST),
     }
 }
 
+#[tactic(auto, unfolding(image::specs::Image::read_entry))]
 fn entry_in(bytes: &[u8]) -> Entry
     requires { entry_size ≤ length bytes.now }
     ensures { result ≡ read_entry bytes.now }
 {
-    let live = number_at(bytes, ENTRY_LIVE);
-    let name = name_at(bytes, ENTRY_NAME);
-    let parent = name_at(bytes, ENTRY_PARENT);
-    let rights = Rights::make(number_at(bytes, ENTRY_RIGHTS));
     Entry {
-        live: live == 1,
-        name: name,
-        parent: parent,
+        live: number_at(bytes, ENTRY_LIVE) == 1,
+        name: name_at(bytes, ENTRY_NAME),
+        parent: name_at(bytes, ENTRY_PARENT),
         first: number_at(bytes, ENTRY_FIRST),
         count: number_at(bytes, ENTRY_COUNT),
-        rights: rights,
+        rights: Rights::make(number_at(bytes, ENTRY_RIGHTS)),
     }
 }
 
 // ---- by place
 
 // The ticket at a place: 8 * the program, counted over all pads, + the place in it.
+#[tactic(auto, using(crate::proofs::Places::ticket_here, lists::proofs::Front::rest_part))]
 pub fn ticket_at(bytes: &[u8], place: usize) -> Ticket
     requires { (length bytes.now ≡ image_size) × (place < 256) }
     ensures { result ≡ get_or (tickets_in bytes.now) place free }
 {
-    let at = PROGRAM * (place / 8) + TICKET * (place % 8);
-    ticket_in(&bytes[at..])
+    ticket_in(&bytes[PROGRAM * (place / 8) + TICKET * (place % 8)..])
 }
 
 // The number that says the kind of the ticket at a place, before it is read as one.
@@ -133,6 +117,7 @@ pub fn kind_at(bytes: &[u8], place: usize) -> u16
 }
 
 // The last number of a program, counted over all pads.
+#[tactic(auto, using(crate::proofs::Places::last_here))]
 pub fn last_at(bytes: &[u8], program: usize) -> u16
     requires { (length bytes.now ≡ image_size) × (program < 32) }
     ensures { result ≡ get_or (lasts_in bytes.now) program 0 }
@@ -145,16 +130,15 @@ pub fn program_at(bytes: &[u8], program: usize) -> Program
     requires { (length bytes.now ≡ image_size) × (program < 32) }
     ensures { result ≡ read_program (drop (program_size * program) bytes.now) }
 {
-    let at = PROGRAM * program;
-    program_in(&bytes[at..])
+    program_in(&bytes[PROGRAM * program..])
 }
 
+#[tactic(auto, using(crate::proofs::Places::entry_here, lists::proofs::Front::rest_part))]
 pub fn entry_at(bytes: &[u8], place: usize) -> Entry
     requires { (length bytes.now ≡ image_size) × (place < 256) }
     ensures { result ≡ get_or (entries_in bytes.now) place no_entry }
 {
-    let at = ENTRIES + ENTRY * place;
-    entry_in(&bytes[at..])
+    entry_in(&bytes[ENTRIES + ENTRY * place..])
 }
 
 // The number that says whether the entry at a place is live.

@@ -1,5 +1,5 @@
 -- After i turns the first i places hold the tickets that the bytes say.
-use Prim.Native.Nat.{◌-◌, ◌*◌, ◌≤◌}
+use Prim.Native.Nat.{◌*◌}
 use lib.ListN.{drop}
 use Rattle.lists.proofs.Laid.{Laid}
 use Rattle.tables.specs.Names.{free}
@@ -8,7 +8,4 @@ use Rattle.image.specs.Image.{read_ticket}
 use Rattle.image_read.proofs.program_in.Given as goal
 
 abbrev pub invariant-loop-i : goal.invariant-loop-i
-invariant-loop-i l = (l.i ≤ 8) × Laid free 8 (λ j. read_ticket (drop (ticket_size * j) l.bytes)) l.i l.tickets
-
-abbrev pub decreases-loop-i : goal.decreases-loop-i
-decreases-loop-i l = 8 - l.i
+invariant-loop-i l = Laid free 8 (λ j. read_ticket (drop (ticket_size * j) l.bytes)) l.i l.k-items
