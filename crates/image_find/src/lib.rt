@@ -2,7 +2,7 @@
 
 #![tactic(auto)]
 
-ghost use Rattle.std.specs.Prelude.{◌/◌, ◌%◌, ◌<◌, ◌≡◌, length};
+ghost use Rattle.std.specs.Prelude.{ℕ, ◌≤◌, ◌/◌, ◌%◌, ◌<◌, ◌≡◌, true, false, length};
 ghost use Rattle.lists.specs.Lists.{first_index};
 ghost use Rattle.tables.specs.Lookup.{is_named, program_at, tickets_of, lookup, place_of, entry_of};
 ghost use Rattle.tables.specs.Change.{is_free, is_spare};
@@ -10,61 +10,62 @@ ghost use Rattle.image.specs.Layout.{image_size};
 ghost use Rattle.image.specs.Image.{decode};
 ghost use Rattle.image_read.specs.Places.{entries_in};
 
+use image_places::{PAD, PROGRAM};
 use tables::{Entry, Name, Program, Ticket};
 
-// The live ticket of a name, or the free record.
-pub fn ticket(image: &[u8], n: Name) -> Ticket
-    requires { length image.now ≡ image_size }
-    ensures { result ≡ lookup (decode image.now) n }
+// The first of the places below `count` that passes, or `count` where none does.
+fn first_place<F: Fn(usize) -> bool>(count: usize, passes: F) -> usize
+    requires { (i : ℕ) → i < count → F.pre passes i }
+    ensures most { result ≤ count }
+    ensures before { (i : ℕ) → i < result → F.post passes i false }
+    ensures there { result < count → F.post passes result true }
 {
-    if 3 < n.pad {
-        return Ticket::free();
-    }
-    if 7 < n.program {
-        return Ticket::free();
-    }
-    let from = 64 * image_places::wide(n.pad) + 8 * image_places::wide(n.program);
-    let mut i: usize = 0;
-    while i < 8 {
-        let k = image_read::ticket_at(image, from + i);
-        if k.has_number(n.number) {
-            return k;
+    for i in 0..count {
+        if passes(i) {
+            return i;
         }
-        i = i + 1;
     }
-    Ticket::free()
+    count
 }
 
 // The place of the live ticket of a name, counted over all pads and programs, or 256.
+#[tactic(auto, using(crate::proofs::Steps::no_program_lem, tables::proofs::NameLaws::is_program_lem))]
 pub fn ticket_place(image: &[u8], n: Name) -> usize
     requires { length image.now ≡ image_size }
     ensures { result ≡ place_of (decode image.now) n }
 {
-    if 3 < n.pad {
+    if !n.is_of_program() {
         return 256;
     }
-    if 7 < n.program {
-        return 256;
+    let from = PAD * usize::from(n.pad) + PROGRAM * usize::from(n.program);
+    let i = first_place(
+        PROGRAM,
+        |i| image_read::ticket_at(image, from + i).has_number(n.number),
+    );
+    if i < PROGRAM { from + i } else { 256 }
+}
+
+// The live ticket of a name, or the free record.
+#[tactic(auto, using(crate::proofs::Steps::ticket_there, crate::proofs::Steps::ticket_nowhere))]
+pub fn ticket(image: &[u8], n: Name) -> Ticket
+    requires { length image.now ≡ image_size }
+    ensures { result ≡ lookup (decode image.now) n }
+{
+    let place = ticket_place(image, n);
+    if place < 256 {
+        image_read::ticket_at(image, place)
+    } else {
+        Ticket::free()
     }
-    let start = 64 * image_places::wide(n.pad) + 8 * image_places::wide(n.program);
-    let mut i: usize = 0;
-    while i < 8 {
-        let k = image_read::ticket_at(image, start + i);
-        if k.has_number(n.number) {
-            return start + i;
-        }
-        i = i + 1;
-    }
-    256
 }
 
 // A program: its eight places for tickets and its last number.
+#[tactic(auto, using(crate::proofs::Laws::program_there))]
 pub fn program(image: &[u8], pad: u16, program: u16) -> Program
     requires { (length image.now ≡ image_size) × ((pad < 4) × (program < 8)) }
     ensures { result ≡ program_at (decode image.now) pad program }
 {
-    let at = 8 * image_places::wide(pad) + image_places::wide(program);
-    image_read::program_at(image, at)
+    image_read::program_at(image, PROGRAM * usize::from(pad) + usize::from(program))
 }
 
 // The place of the live entry of a name, or 256.
@@ -72,27 +73,21 @@ pub fn entry_place(image: &[u8], n: Name) -> usize
     requires { length image.now ≡ image_size }
     ensures { result ≡ first_index (is_named n) (entries_in image.now) }
 {
-    let mut i: usize = 0;
-    while i < 256 {
-        let e = image_read::entry_at(image, i);
-        if e.is_named(n) {
-            return i;
-        }
-        i = i + 1;
-    }
-    i
+    first_place(256, |i| image_read::entry_at(image, i).is_named(n))
 }
 
 // The live entry of a name, or the free record.
+#[tactic(auto, using(crate::proofs::Steps::entry_there, crate::proofs::Steps::entry_nowhere))]
 pub fn entry(image: &[u8], n: Name) -> Entry
     requires { length image.now ≡ image_size }
     ensures { result ≡ entry_of (decode image.now) n }
 {
     let place = entry_place(image, n);
-    if 256 <= place {
-        return Entry::none();
+    if place < 256 {
+        image_read::entry_at(image, place)
+    } else {
+        Entry::none()
     }
-    image_read::entry_at(image, place)
 }
 
 // The lowest free place among the eight of a program, counted over all pads, or 8.
@@ -100,17 +95,11 @@ pub fn free_place(image: &[u8], program: usize) -> usize
     requires { (length image.now ≡ image_size) × (program < 32) }
     ensures { result ≡ first_index is_free (tickets_of (decode image.now) (program / 8) (program % 8)) }
 {
-    let from = 8 * program;
-    let mut place: usize = 0;
-    while place < 8 {
-        let k = image_read::ticket_at(image, from + place);
-        let kind = k.kind;
-        if !kind.is_live() {
-            return place;
-        }
-        place = place + 1;
-    }
-    place
+    let from = PROGRAM * program;
+    first_place(
+        PROGRAM,
+        |i| !image_read::ticket_at(image, from + i).kind.is_live(),
+    )
 }
 
 // The lowest free place for an entry, or 256.
@@ -118,13 +107,5 @@ pub fn spare_place(image: &[u8]) -> usize
     requires { length image.now ≡ image_size }
     ensures { result ≡ first_index is_spare (entries_in image.now) }
 {
-    let mut i: usize = 0;
-    while i < 256 {
-        let e = image_read::entry_at(image, i);
-        if !e.live {
-            return i;
-        }
-        i = i + 1;
-    }
-    i
+    first_place(256, |i| !image_read::entry_at(image, i).live)
 }

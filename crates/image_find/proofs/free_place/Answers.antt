@@ -1,29 +1,24 @@
--- The search stands at a place of the program: what is free is found from there on.
-use native.Mathlib.Omega.{arith}
-use mathlib.Core.Path.{sym, ap, ◌∙◌}
-use mathlib.Core.Bool.{not}
-use Rattle.image_find.proofs.Steps.{free_hit, free_miss, free_none}
+use Rattle.std.proofs.Common.{◌<◌, ◌/◌, ◌%◌, arith}
+use Rattle.tables.specs.Names.{free}
+use Rattle.tables.specs.Lookup.{tickets_of}
+use Rattle.tables.specs.Change.{is_free}
+use Rattle.image.specs.Image.{decode}
+use Rattle.image_find.proofs.First.{first_is}
+use Rattle.image_find.proofs.Steps.{eight, of_any_program}
 use Rattle.image_find.proofs.free_place.Goals as goal
 
-pub loop-place-init : goal.loop-place-init
-loop-place-init c = (omega arith, omega arith)
-
-pub returns-then-not-is_live : goal.returns-then-not-is_live
-returns-then-not-is_live c =
-    let l = c.loop-place in
-    let low = c.loop-place-test.true in
-    free_hit c.args.image.now c.args.program c.requires.1 l.place (omega (arith, low)) _ c.ticket_at-k.ensures
-    (ap not (sym c.is_live.ensures) ∙ (ap not c.if-not-is_live.true)) l.invariant.1
-
-pub loop-place-preserved : goal.loop-place-preserved
-loop-place-preserved c =
-    let low = c.loop-place-test.true in
-    let l = c.loop-place in (
-      omega arith,
-      free_miss c.args.image.now c.args.program c.requires.1 l.place (omega (arith, low)) _ c.ticket_at-k.ensures
-          (ap not (sym c.is_live.ensures) ∙ (ap not c.if-not-is_live.false)) l.invariant.1,
-    )
-
 pub returns : goal.returns
+unfolding is_free
 returns c =
-    free_none c.args.image.now c.args.program c.requires.1 c.loop-place.place c.loop-place-test.false c.loop-place.invariant.1
+    let s = c.first_place.ensures in
+    let image = c.args.image.now in
+    let program = c.args.program in
+    let low : program < 32 = c.requires.1 in
+    let long = eight image (program / 8) (program % 8) (omega arith) (omega arith) in
+    first_is is_free free (tickets_of (decode image) (program / 8) (program % 8)) c.first_place.result (omega (arith, long))
+    (λ j h.
+    let here = of_any_program image program j low (omega (arith, s.most)) in
+    let q = s.before j h in cc)
+    (λ h.
+    let here = of_any_program image program c.first_place.result low (omega (arith, long)) in
+    let q = s.there (omega (arith, long)) in cc)

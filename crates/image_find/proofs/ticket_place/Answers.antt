@@ -1,59 +1,39 @@
--- The search stands at place i of the program: the number is found from there on.
-use native.Mathlib.Omega.{arith}
-use mathlib.Core.Path.{sym, ◌∙◌}
-use Rattle.image_find.proofs.Steps.{no_pad_lem, no_program_lem, no_place, place_hit, ticket_miss, ticket_none}
+use Rattle.std.proofs.Common.{◌≡◌, true, arith, sym}
+use Rattle.lists.specs.Lists.{first_index}
+use Rattle.tables.specs.Names.{is_program, free}
+use Rattle.tables.specs.Lookup.{tickets_of, has_number}
+use Rattle.image.specs.Image.{decode}
+use Rattle.image_find.proofs.First.{first_is}
+use Rattle.image_find.proofs.Steps.{eight, of_program, low_pad, low_program, place_found, place_missed}
 use Rattle.image_find.proofs.ticket_place.Goals as goal
+use Rattle.image_find.proofs.ticket_place.Goals.{After-first_place-i}
 
-pub returns-then-n-gt3 : goal.returns-then-n-gt3
-returns-then-n-gt3 c =
-    let s = c.args in
-    no_place s.image.now s.n (no_pad_lem s.image.now s.n c.if-n-gt3.true)
+possible : (c : After-first_place-i) → is_program c.args.n.pad c.args.n.program ≡ true
+possible c = cc
 
-pub returns-then-n-gt7 : goal.returns-then-n-gt7
-returns-then-n-gt7 c =
-    let s = c.args in
-    no_place s.image.now s.n (no_program_lem s.image.now s.n c.if-n-gt7.true)
+spot : (c : After-first_place-i) → c.first_place-i.result ≡ first_index (has_number c.args.n.number) (tickets_of (decode c.args.image.now) c.args.n.pad c.args.n.program)
+spot c =
+    let s = c.first_place-i.ensures in
+    let image = c.args.image.now in
+    let n = c.args.n in
+    let a = low_pad image n (possible c) in
+    let b = low_program image n (possible c) in
+    let long = eight image n.pad n.program a b in
+    first_is (has_number n.number) free (tickets_of (decode image) n.pad n.program) c.first_place-i.result (omega (arith, long))
+    (λ j h.
+    let here = of_program image n.pad n.program a b j (omega (arith, s.most)) in
+    let q = s.before j h in cc)
+    (λ h.
+    let here = of_program image n.pad n.program a b c.first_place-i.result (omega (arith, long)) in
+    let q = s.there (omega (arith, long)) in cc)
 
-pub loop-i-init : goal.loop-i-init
-loop-i-init c = (omega arith, λ a b. omega arith)
+pub returns-then-i-lt-PROGRAM : goal.returns-then-i-lt-PROGRAM
+returns-then-i-lt-PROGRAM c =
+    let w = (goal.at.returns-then-i-lt-PROGRAM c).After-first_place-i in
+    let e = place_found c.args.image.now c.args.n (possible w) _ (spot w) c.if-i-lt-PROGRAM.true in
+    omega (arith, e)
 
-pub overflow_add-start-in-loop-i : goal.overflow_add-start-in-loop-i
-overflow_add-start-in-loop-i c =
-    omega (arith, c.wide.ensures, c.wide-2.ensures, c.if-n-gt3.false, c.if-n-gt7.false)
-
-pub ticket_at-k-requires : goal.ticket_at-k-requires
-ticket_at-k-requires c =
-    (c.requires, omega (arith, c.wide.ensures, c.wide-2.ensures, c.if-n-gt3.false, c.if-n-gt7.false))
-
-pub overflow_add-result : goal.overflow_add-result
-overflow_add-result c =
-    omega (arith, c.wide.ensures, c.wide-2.ensures, c.if-n-gt3.false, c.if-n-gt7.false)
-
-pub returns-then-has_number : goal.returns-then-has_number
-returns-then-has_number c =
-    let s = c.args in
-    let on_pad_lem = c.if-n-gt3.false in
-    let of = c.if-n-gt7.false in
-    let l = c.loop-i in
-    place_hit s.image.now s.n (omega (arith, on_pad_lem)) (omega (arith, of)) l.i _ (omega arith)
-    (omega (arith, c.wide.ensures, c.wide-2.ensures)) _ c.ticket_at-k.ensures (sym c.has_number.ensures ∙ c.if-has_number.true)
-    (l.invariant.1 (omega (arith, on_pad_lem)) (omega (arith, of)))
-
-pub loop-i-preserved : goal.loop-i-preserved
-loop-i-preserved c =
-    let s = c.args in
-    let l = c.loop-i in (
-      omega arith,
-      λ a b. ticket_miss s.image.now s.n a b l.i _ (omega arith) (omega (arith, c.wide.ensures, c.wide-2.ensures)) _ c.ticket_at-k.ensures
-          (sym c.has_number.ensures ∙ c.if-has_number.false) (l.invariant.1 a b),
-    )
-
-pub returns : goal.returns
-returns c =
-    let s = c.args in
-    let on_pad_lem = c.if-n-gt3.false in
-    let of = c.if-n-gt7.false in
-    let l = c.loop-i in
-    no_place s.image.now s.n
-    (ticket_none s.image.now s.n (omega (arith, on_pad_lem)) (omega (arith, of)) l.i (omega arith)
-    (l.invariant.1 (omega (arith, on_pad_lem)) (omega (arith, of))))
+pub returns-else-i-lt-PROGRAM : goal.returns-else-i-lt-PROGRAM
+returns-else-i-lt-PROGRAM c =
+    let w = (goal.at.returns-else-i-lt-PROGRAM c).After-first_place-i in
+    sym (place_missed c.args.image.now c.args.n (possible w) _ (spot w) c.if-i-lt-PROGRAM.false)
