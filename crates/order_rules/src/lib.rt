@@ -14,13 +14,11 @@ use rights::Rights;
 use tables::{Entry, Kind, Name, Ticket};
 
 // Both bounds included.
+#[tactic(auto, unfolding(lists::specs::Tests::between))]
 pub fn is_between(low: u16, high: u16, x: u16) -> bool
     ensures { result ≡ between low high x }
 {
-    if x < low {
-        return false;
-    }
-    x <= high
+    low <= x && x <= high
 }
 
 // A run of sheets and the rights to it.
@@ -32,86 +30,61 @@ pub struct Span {
 }
 
 impl Span {
+    #[tactic(auto, unfolding(tables::specs::Sheets::inside))]
     pub fn is_inside(self, other: Span) -> bool
         ensures { result ≡ inside self.first self.count self.rights other.first other.count other.rights }
     {
-        if self.first < other.first {
-            return false;
-        }
-        let end = self.first as usize + self.count as usize;
-        let last = other.first as usize + other.count as usize;
-        if last < end {
-            return false;
-        }
-        let held = other.rights;
-        let asked = self.rights;
-        held.contains(asked)
+        let end = usize::from(self.first) + usize::from(self.count);
+        let last = usize::from(other.first) + usize::from(other.count);
+        other.first <= self.first && end <= last && other.rights.contains(self.rights)
     }
+}
 
-    pub fn of_ticket(k: Ticket) -> Span
-        ensures { result ≡ record { first = k.first; count = k.count; rights = k.rights } }
-    {
-        let rights = k.rights;
+impl From<Ticket> for Span {
+    ghost from_gives = { λ k s. s ≡ record { first = k.first; count = k.count; rights = k.rights } };
+
+    fn from(k: Ticket) -> Span {
         Span {
             first: k.first,
             count: k.count,
-            rights: rights,
+            rights: k.rights,
         }
     }
+}
 
-    pub fn of_entry(e: Entry) -> Span
-        ensures { result ≡ record { first = e.first; count = e.count; rights = e.rights } }
-    {
-        let rights = e.rights;
+impl From<Entry> for Span {
+    ghost from_gives = { λ e s. s ≡ record { first = e.first; count = e.count; rights = e.rights } };
+
+    fn from(e: Entry) -> Span {
         Span {
             first: e.first,
             count: e.count,
-            rights: rights,
+            rights: e.rights,
         }
     }
 }
 
 // T2, of a grant.
+#[tactic(auto, unfolding(tables::specs::Order::span_ok))]
 pub fn span_ok(k: Ticket) -> bool
     ensures { result ≡ span_ok k }
 {
-    if k.count < 1 {
-        return false;
-    }
-    if 256 < k.first as usize + k.count as usize {
-        return false;
-    }
-    let rights = k.rights;
-    is_between(1, 7, rights.bits)
+    1 <= k.count
+        && usize::from(k.first) + usize::from(k.count) <= 256
+        && is_between(1, 7, k.rights.bits)
 }
 
 // T3, of the child `k` named `n` and its parent.
+#[tactic(auto, unfolding(tables::specs::Order::parent_ok, tables::specs::Names::eq_name))]
 pub fn parent_ok(n: Name, k: Ticket, parent: Ticket) -> bool
     ensures { result ≡ parent_ok n k parent }
 {
-    let kind = parent.kind;
-    if !kind.is_grant() {
-        return false;
-    }
-    let up = k.other;
-    if up.pad != n.pad {
-        return false;
-    }
-    if up.program == n.program {
-        return false;
-    }
-    let rights = parent.rights;
-    if !rights.can_pass() {
-        return false;
-    }
-    let a = Span::of_ticket(k);
-    let b = Span::of_ticket(parent);
-    if !a.is_inside(b) {
-        return false;
-    }
-    let d = k.dock;
-    let e = parent.dock;
-    d.is(e)
+    parent.kind.is_grant()
+        && k.other.pad == n.pad
+        && k.other.program != n.program
+        && parent.rights.can_pass()
+        && Span::from(k).is_inside(Span::from(parent))
+        && k.dock == parent.dock
 }
 
 // T5, taken if the parent is the store, else received.
@@ -119,91 +92,49 @@ pub fn parent_ok(n: Name, k: Ticket, parent: Ticket) -> bool
 fn kind_ok(e: Entry, kind: Kind) -> bool
     ensures { result ≡ cond (under_store e) (eq_name e.parent no_name && is_taken kind) (is_received kind) }
 {
-    let up = e.parent;
-    if up.number == 0 {
-        if up.pad != 0 {
-            return false;
-        }
-        if up.program != 0 {
-            return false;
-        }
-        return kind.is_taken();
+    if e.parent.number == 0 {
+        e.parent == Name::none() && kind.is_taken()
+    } else {
+        kind.is_received()
     }
-    kind.is_received()
 }
 
 // T5, of an entry and the grant that it names.
+#[tactic(auto, unfolding(tables::specs::Order::grant_ok))]
 pub fn grant_ok(e: Entry, k: Ticket) -> bool
     ensures { result ≡ grant_ok e k }
 {
-    let kind = k.kind;
-    if !kind_ok(e, kind) {
-        return false;
-    }
-    if k.first != e.first {
-        return false;
-    }
-    if k.count != e.count {
-        return false;
-    }
-    let a = k.rights;
-    let b = e.rights;
-    a.bits == b.bits
+    kind_ok(e, k.kind) && k.first == e.first && k.count == e.count && k.rights.bits == e.rights.bits
 }
 
 // T5, of an entry and its parent entry.
+#[tactic(auto, unfolding(tables::specs::Order::parent_entry_ok))]
 pub fn parent_entry_ok(e: Entry, parent: Entry) -> bool
     ensures { result ≡ parent_entry_ok e parent }
 {
-    if !parent.live {
-        return false;
-    }
-    let rights = parent.rights;
-    if !rights.can_pass() {
-        return false;
-    }
-    let a = Span::of_entry(e);
-    let b = Span::of_entry(parent);
-    a.is_inside(b)
+    parent.live && parent.rights.can_pass() && Span::from(e).is_inside(Span::from(parent))
 }
 
 // T6, of a recall's parent.
+#[tactic(auto, unfolding(tables::specs::Order::recall_parent_ok))]
 pub fn recall_parent_ok(parent: Ticket) -> bool
     ensures { result ≡ recall_parent_ok parent }
 {
-    let kind = parent.kind;
-    if !kind.is_grant() {
-        return false;
-    }
-    let rights = parent.rights;
-    rights.can_pass()
+    parent.kind.is_grant() && parent.rights.can_pass()
 }
 
 // T6, of a recall's target on its own pad.
+#[tactic(auto, unfolding(tables::specs::Order::is_child_of, tables::specs::Names::eq_name))]
 pub fn is_child_of(parent: Name, k: Ticket) -> bool
     ensures { result ≡ is_child_of parent k }
 {
-    let kind = k.kind;
-    if !kind.is_child() {
-        return false;
-    }
-    let up = k.other;
-    up.is(parent)
+    k.kind.is_child() && k.other == parent
 }
 
 // T6, of the entry of a recall's target on another pad, and the recall's grant.
+#[tactic(auto, unfolding(lists::specs::Tests::implies, tables::specs::Names::eq_name))]
 pub fn far_entry_ok(grant: Ticket, e: Entry) -> bool
     ensures { result ≡ implies e.live (eq_name e.parent grant.dock && inside e.first e.count e.rights grant.first grant.count grant.rights) }
 {
-    if !e.live {
-        return true;
-    }
-    let up = e.parent;
-    let d = grant.dock;
-    if !up.is(d) {
-        return false;
-    }
-    let a = Span::of_entry(e);
-    let b = Span::of_ticket(grant);
-    a.is_inside(b)
+    !e.live || e.parent == grant.dock && Span::from(e).is_inside(Span::from(grant))
 }
