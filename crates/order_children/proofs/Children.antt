@@ -8,7 +8,7 @@ use lib.Dec.{ltb}
 use lib.ListN.{get_or}
 use borrow.Author.Tests.{lt-ltb, le-ltb}
 use Rattle.lists.specs.Tests.{implies}
-use Rattle.tables.specs.declared.Ticket.{Ticket}
+use Rattle.tables.specs.declared.{Name.Name, Ticket.Ticket}
 use Rattle.tables.specs.Kinds.{is_child}
 use Rattle.tables.specs.Names.{free}
 use Rattle.tables.specs.Order.{parent_ok}
@@ -45,9 +45,9 @@ module _ (tickets : List Ticket) (numbers : List ℕ) (q at : ℕ) (a : at ≡ q
     unfolding child_ok implies
     asked h = rw (c, sym there, lt-ltb p 256 h)
 
-    pub by_parent : p < 256 → (parent : Ticket) → parent ≡ get_or tickets p free → (b : Bool) → b ≡ parent_ok (name_at at k) k parent
-        → child_ok tickets numbers q (get_or tickets q free) ≡ b
-    by_parent h parent f b r = asked h ∙ sym (r ∙ λ i. parent_ok (name_at (a i) (same i)) (same i) (f i))
+    pub by_parent : p < 256 → (parent : Ticket) → parent ≡ get_or tickets p free → (n : Name) → n ≡ name_at at k
+        → (b : Bool) → b ≡ parent_ok n k parent → child_ok tickets numbers q (get_or tickets q free) ≡ b
+    by_parent h parent f n g b r = asked h ∙ sym (r ∙ λ i. parent_ok ((g ∙ λ j. name_at (a j) (same j)) i) (same i) (f i))
 
     pub parent_up : p ≡ up_of numbers (get_or tickets q free)
     parent_up = rw (c, there)
@@ -68,6 +68,3 @@ module _ (up : List ℕ) where
     pub head_missed : (k : Ticket) → is_child k.kind ≡ true → 256 ≤ head → headed q k ≡ false
     unfolding implies
     head_missed k c h = rw (c, sym ends, le-ltb head 256 h)
-
-    pub head_found : head < 256 → ltb (end_from 64 up q) 256 ≡ true
-    head_found h = rw (sym ends, lt-ltb head 256 h)

@@ -12,30 +12,20 @@ ghost use Rattle.image_read.specs.Places.{tickets_in, lasts_in};
 ghost use Rattle.order_lists.specs.Listing.{TicketsListed, AllBelow};
 ghost use Rattle.order_children.specs.Parts.{children_ok, Ups, heads_ok};
 
-use tables::Name;
-
 // Each child's parent; its place is written to `up` at the child's. `up` is lent with 256 at each place.
 fn children_ok(image: &[u8], numbers: &[u16], children: &[u16], up: &mut [u16]) -> bool
     requires { (length image.now ≡ image_size) × ((length numbers.now ≡ 256) × (TicketsListed (λ k. is_child k.kind) (tickets_in image.now) children.now × (up.old ≡ replicate 256 256))) }
     ensures { (result ≡ children_ok (tickets_in image.now) numbers.now) × (result ≡ true → Ups (tickets_in image.now) numbers.now up.new) }
 {
-    let mut i: usize = 0;
-    while i < children.len() {
-        let at = image_places::wide(children[i]);
-        i = i + 1;
+    for &at in children {
+        let at = usize::from(at);
         let k = image_read::ticket_at(image, at);
-        let other = k.other;
-        let p = image_places::place_of(numbers, other);
+        let p = image_places::place_of(numbers, k.other);
         if 256 <= p {
             return false;
         }
         let parent = image_read::ticket_at(image, p);
-        let n = Name {
-            pad: (at / 64) as u16,
-            program: (at / 8 % 8) as u16,
-            number: k.number,
-        };
-        if !order_rules::parent_ok(n, k, parent) {
+        if !order_rules::parent_ok(image_places::name_at(at, k.number), k, parent) {
             return false;
         }
         up[at] = p as u16;
@@ -48,12 +38,8 @@ fn heads_ok(children: &[u16], up: &[u16]) -> bool
     requires { (length up.now ≡ 256) × AllBelow 256 children.now }
     ensures { (tickets : List Ticket) → length tickets ≡ 256 → TicketsListed (λ k. is_child k.kind) tickets children.now → result ≡ heads_ok tickets up.now }
 {
-    let mut i: usize = 0;
-    while i < children.len() {
-        let at = image_places::wide(children[i]);
-        i = i + 1;
-        let head = image_places::end_from(up, at, 64);
-        if 256 <= head {
+    for &at in children {
+        if 256 <= image_places::end_from(up, usize::from(at), 64) {
             return false;
         }
     }
@@ -65,12 +51,9 @@ pub fn chains_ok(image: &[u8], numbers: &[u16], children: &[u16]) -> bool
     requires { (length image.now ≡ image_size) × ((length numbers.now ≡ 256) × TicketsListed (λ k. is_child k.kind) (tickets_in image.now) children.now) }
     ensures { (t : Tables) → Flattened t (tickets_in image.now) (lasts_in image.now) → Numbered t numbers.now → result ≡ t3 t }
 {
-    if children.len() == 0 {
+    if children.is_empty() {
         return true;
     }
     let mut up = [256u16; 256];
-    if !children_ok(image, numbers, children, &mut up) {
-        return false;
-    }
-    heads_ok(children, &up)
+    children_ok(image, numbers, children, &mut up) && heads_ok(children, &up)
 }
