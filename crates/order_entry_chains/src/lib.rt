@@ -30,14 +30,10 @@ pub fn chains_end(up: &mut [u16], hung: &[u16]) -> bool
     requires { (length up.old ≡ 256) × (AllBelow 256 hung.now × LinksListed up.old hung.now) }
     ensures { result ≡ all_end up.old }
 {
-    let mut i: usize = 0;
-    while i < hung.len() {
-        let at = image_places::wide(hung[i]);
-        i = i + 1;
-        if up[at] < 256 {
-            if !settle(up, at, 256) {
-                return false;
-            }
+    for &at in hung {
+        let at = usize::from(at);
+        if up[at] < 256 && !settle(up, at, 256) {
+            return false;
         }
     }
     true

@@ -1,49 +1,25 @@
 use native.Mathlib.Omega.{arith}
-use mathlib.Core.Path.{refl, ◌∙◌}
-use borrow.Author.Rules.{rules}
-use Rattle.order_entry_chains.proofs.Settling.{walked_none, walked_skip, walked_more, walked_bad, walked_all}
+use Rattle.order_entry_chains.proofs.Settling.{walked_skip, walked_more, walked_bad, walked_all}
 use Rattle.order_entry_chains.proofs.chains_end.Goals as goal
-
-pub loop-i-init : goal.loop-i-init
-loop-i-init c = (omega arith, (refl, walked_none _ _))
-
-pub offset_bounds-up-at : goal.offset_bounds-up-at
-offset_bounds-up-at c =
-    omega (arith, c.requires.1.0 c.loop-i.i c.loop-i-test.true, c.wide-at.ensures)
-
-pub bounds-up-at : goal.bounds-up-at
-bounds-up-at c =
-    omega (arith, c.requires.0, c.requires.1.0 c.loop-i.i c.loop-i-test.true, c.wide-at.ensures, c.loop-i.invariant.1.0)
-
-pub settle-requires : goal.settle-requires
-settle-requires c =
-    (c.loop-i.invariant.1.0 ∙ c.requires.0, omega (arith, c.requires.1.0 c.loop-i.i c.loop-i-test.true, c.wide-at.ensures))
+use Rattle.order_entry_chains.proofs.chains_end.Goals.{else-up-at-lt256-via-then-up-at-lt256+else-not-settle, else-up-at-lt256-via-else-up-at-lt256}
 
 pub returns-then-not-settle : goal.returns-then-not-settle
 returns-then-not-settle c =
-    walked_bad _ _ _ _ c.loop-i.invariant.1.1 c.requires.0 _ c.wide-at.ensures _ _ c.settle.ensures
-    (omega (arith, c.requires.1.0 c.loop-i.i c.loop-i-test.true, c.wide-at.ensures)) c.if-not-settle.true
+    walked_bad _ _ _ _ c.loop-at.invariant.1 c.requires.0 _ c.from-at.ensures _ _ c.settle.ensures
+    (omega (arith, c.requires.1.0 c.loop-at.at-index c.loop-at-test.true, c.from-at.ensures)) c.if-not-settle.true
 
-pub loop-i-preserved-else-not-settle : goal.loop-i-preserved-else-not-settle
-loop-i-preserved-else-not-settle c = (
-  omega (arith, c.loop-i-test.true),
-  (
-    search rules,
-    walked_more _ _ _ _ c.loop-i.invariant.1.1 c.requires.0 _ c.wide-at.ensures _ _
-        c.settle.ensures c.if-not-settle.false,
-  ),
-)
-
-pub loop-i-preserved : goal.loop-i-preserved
-loop-i-preserved c = (
-  omega (arith, c.loop-i-test.true),
-  (
-    c.loop-i.invariant.1.0,
-    walked_skip _ _ _ _ c.loop-i.invariant.1.1 c.requires.0 _ c.wide-at.ensures
-        (omega (arith, c.if-up-at-lt256.false)),
-  ),
+pub loop-at-preserved : goal.loop-at-preserved
+loop-at-preserved c = (
+  omega arith,
+  elim c.else-up-at-lt256.branch [
+    | else-up-at-lt256-via-then-up-at-lt256+else-not-settle w ↦
+        rw w.up-is
+        (walked_more _ _ _ _ c.loop-at.invariant.1 c.requires.0 _ c.from-at.ensures _ _ w.settle.ensures w.if-not-settle.false)
+    | else-up-at-lt256-via-else-up-at-lt256 w ↦
+        rw w.up-is
+        (walked_skip _ _ _ _ c.loop-at.invariant.1 c.requires.0 _ c.from-at.ensures (omega (arith, w.if-up-at-lt256.false)))
+  ],
 )
 
 pub returns : goal.returns
-returns c =
-    walked_all _ _ _ _ c.loop-i.invariant.1.1 c.requires.0 c.requires.1.1 (omega (arith, c.loop-i-test.false))
+returns c = walked_all _ _ _ _ c.loop-at.invariant.1 c.requires.0 c.requires.1.1 (omega (arith, c.loop-at-test.false))
