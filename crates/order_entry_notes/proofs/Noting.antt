@@ -4,7 +4,7 @@
 use Prim.Native.Nat.{ℕ, ◌+◌, ◌≤◌, ◌<◌}
 use native.Mathlib.Omega.{arith}
 use mathlib.Core.Path.{◌≡◌, sym, ap, subst, ◌∙◌}
-use mathlib.Core.Bool.{Bool, true, false, ◌&&◌, cond}
+use mathlib.Core.Bool.{Bool, true, false, ◌&&◌}
 use mathlib.Core.List.{List}
 use lib.Dec.{eqb}
 use lib.ListN.{length, get_or, set, replicate, length-replicate, length-set, get_or-eq_default}
@@ -12,13 +12,13 @@ use lib.Seq.{get_or-set_same, get_or-set_other}
 use borrow.Author.Tests.{eqb-true, eqb-false, eq-eqb}
 use borrow.Author.Count.{below_more}
 use Rattle.lists.specs.Tests.{implies}
-use Rattle.lists.proofs.Tests.{Case, pass, fail, case, contradiction, cannot_pass, cannot_fail, and_l, and_r, and_intro, implies_intro, implies_elim, and_false}
+use Rattle.lists.proofs.Tests.{Case, pass, fail, case, contradiction, cannot_pass, and_l, and_r, and_intro, implies_intro, implies_elim, and_false}
 use Rattle.lists.proofs.Everywhere.{all_intro, all_elim, no_two_intro, no_two_elim}
 use Rattle.lists.proofs.Reading.{same_all}
 use Rattle.tables.specs.declared.{Ticket.Ticket, Entry.Entry}
 use Rattle.tables.specs.Names.{no_name, eq_name, free, no_entry}
 use Rattle.tables.specs.Order.{under_store, grant_ok}
-use Rattle.order_entry_notes.specs.Notes.{every_live, place_of, has_grant, names_apart, Noter, NotesOf}
+use Rattle.order_entry_notes.specs.Notes.{every_live, place_of, has_grant, GrantAt, names_apart, Noter, NotesOf}
 
 -- the free record is no grant
 no_grant : (e : Entry) → grant_ok e free ≡ false
@@ -35,36 +35,17 @@ module _ (tickets : List Ticket) (numbers : List ℕ) where
   unfolding has_grant
   has_at e p q k z b r = ap (λ (x : ℕ). grant_ok e (get_or tickets x free)) (sym q) ∙ ap (grant_ok e) (sym z) ∙ sym r
 
-  has_none : (e : Entry) (p : ℕ) → p ≡ place_of numbers e → length tickets ≤ p → has_grant tickets numbers e ≡ false
-  has_none e p q h = has_at e p q free (sym (get_or-eq_default tickets free h)) false (sym (no_grant e))
-
-  -- the place of the grant, 256 where there is none that suits: as it is found
+  -- the grant's place: as it is found, or not
   module _ (e : Entry) (p : ℕ) (place : p ≡ place_of numbers e) where
-    pub place_missing : length tickets ≤ p → 256 ≡ cond (has_grant tickets numbers e) (place_of numbers e) 256
-    place_missing h = sym (ap (λ (b : Bool). cond b (place_of numbers e) 256) (has_none e p place h))
+    pub place_missing : length tickets ≤ p → has_grant tickets numbers e ≡ false
+    place_missing h = has_at e p place free (sym (get_or-eq_default tickets free h)) false (sym (no_grant e))
 
     module _ (k : Ticket) (here : k ≡ get_or tickets p free) (b : Bool) (asked : b ≡ grant_ok e k) where
-      pub place_unfit : b ≡ false → 256 ≡ cond (has_grant tickets numbers e) (place_of numbers e) 256
-      place_unfit f = sym (ap (λ (x : Bool). cond x (place_of numbers e) 256) (has_at e p place k here b asked ∙ f))
+      pub place_unfit : b ≡ false → has_grant tickets numbers e ≡ false
+      place_unfit f = has_at e p place k here b asked ∙ f
 
-      pub place_fit : b ≡ true → p ≡ cond (has_grant tickets numbers e) (place_of numbers e) 256
-      place_fit y = place ∙ sym (ap (λ (x : Bool). cond x (place_of numbers e) 256) (has_at e p place k here b asked ∙ y))
-
-  -- and what it says
-  module _ (e : Entry) (p : ℕ) (found : p ≡ cond (has_grant tickets numbers e) (place_of numbers e) 256) where
-    at_place : has_grant tickets numbers e ≡ true → p ≡ place_of numbers e
-    at_place h = found ∙ ap (λ (b : Bool). cond b (place_of numbers e) 256) h
-
-    pub grant_none : 256 ≤ p → length tickets ≡ 256 → has_grant tickets numbers e ≡ false
-    grant_none h z = cannot_pass (has_grant tickets numbers e) (λ y. contradiction y (has_none e p (at_place y) (omega (arith, h, z))))
-
-    pub grant_some : p < 256 → has_grant tickets numbers e ≡ true
-    grant_some h =
-        cannot_fail (has_grant tickets numbers e)
-        (λ n. let z : p ≡ 256 = found ∙ ap (λ (b : Bool). cond b (place_of numbers e) 256) n in omega (arith, z, h))
-
-    pub grant_at_place : p < 256 → p ≡ place_of numbers e
-    grant_at_place h = at_place (grant_some h)
+      pub place_fit : b ≡ true → p < 256 → GrantAt tickets numbers e p
+      place_fit y h = record { low = h; place = place; suits = has_at e p place k here b asked ∙ y }
 
 module _ (tickets : List Ticket) (numbers : List ℕ) (es : List Entry) where
   abbrev at : ℕ → Entry

@@ -20,6 +20,12 @@ place_of numbers e = place_in numbers e.name
 unfoldable pub has_grant : List Ticket → List ℕ → Entry → Bool
 has_grant tickets numbers e = grant_ok e (get_or tickets (place_of numbers e) free)
 
+-- it is found at the place p
+pub record GrantAt (tickets : List Ticket) (numbers : List ℕ) (e : Entry) (p : ℕ) : Type 0 where
+  pub low : p < 256
+  pub place : p ≡ place_of numbers e
+  pub suits : has_grant tickets numbers e ≡ true
+
 unfoldable pub names_apart : List ℕ → List Entry → Bool
 names_apart numbers es = no_two (λ e. e.live) (λ e other. eqb (place_of numbers e) (place_of numbers other)) es
 

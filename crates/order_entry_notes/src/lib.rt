@@ -2,52 +2,38 @@
 
 #![tactic(auto)]
 
-ghost use Rattle.std.specs.Prelude.{◌≡◌, true, false, cond, length, replicate};
+ghost use Rattle.std.specs.Prelude.{◌≡◌, false, length, replicate, is_some, IfSome, MatchOption};
 ghost use Rattle.image.specs.Layout.{image_size};
 ghost use Rattle.image.specs.Image.{lives_ok};
 ghost use Rattle.image_read.specs.Places.{tickets_in, entries_in};
-ghost use Rattle.order_entry_notes.specs.Notes.{Noting, Listed, note_of, place_of, has_grant};
+ghost use Rattle.order_entry_notes.specs.Notes.{GrantAt, Noting, Listed, note_of, has_grant};
 
 use tables::{Entry, Name};
 
-// Are all entries noted; and how many of them are listed as under the store and as under others?
+// How many entries are listed as under the store, and how many as under others?
 #[derive(Clone, Copy)]
 pub struct Entries {
-    pub ok: bool,
     pub roots: usize,
     pub hung: usize,
 }
 
-fn refused() -> Entries
-    ensures { result.ok ≡ false }
-{
-    Entries {
-        ok: false,
-        roots: 0,
-        hung: 0,
-    }
-}
-
-// The place of the grant that an entry names, where it suits the entry, or 256.
-fn grant_place(image: &[u8], numbers: &[u16], e: Entry) -> usize
+// The place of the grant that an entry names, where it suits the entry.
+#[tactic(auto, using(image_read::proofs::Places::tickets_long, crate::proofs::Noting::place_missing, crate::proofs::Noting::place_unfit, crate::proofs::Noting::place_fit))]
+fn grant_place(image: &[u8], numbers: &[u16], e: Entry) -> Option<usize>
     requires { (length image.now ≡ image_size) × (length numbers.now ≡ 256) }
-    ensures { result ≡ cond (has_grant (tickets_in image.now) numbers.now e) (place_of numbers.now e) 256 }
+    ensures { MatchOption result (has_grant (tickets_in image.now) numbers.now e ≡ false) (GrantAt (tickets_in image.now) numbers.now e) }
 {
-    let n = e.name;
-    let p = image_places::place_of(numbers, n);
-    if 256 <= p {
-        return 256;
+    let p = image_places::place_of(numbers, e.name);
+    if p < 256 && order_rules::grant_ok(e, image_read::ticket_at(image, p)) {
+        Some(p)
+    } else {
+        None
     }
-    let k = image_read::ticket_at(image, p);
-    if !order_rules::grant_ok(e, k) {
-        return 256;
-    }
-    p
 }
 
 // Notes each entry's place at the place of the grant that it names, and lists the places of those under the store, of those under others, and
-// beside the latter the places of their grants. The answer is no where an entry is neither live nor not, or names no grant that suits it, or
-// two name one.
+// beside the latter the places of their grants. A place is written behind each list's end, and only the list that it belongs to grows: no
+// branch depends on which that is. None where an entry is neither live nor not, or names no grant that suits it, or two name one.
 pub fn note_entries(
     image: &[u8],
     numbers: &[u16],
@@ -55,53 +41,39 @@ pub fn note_entries(
     roots: &mut [u16],
     hung: &mut [u16],
     received: &mut [u16],
-) -> Entries
+) -> Option<Entries>
     requires { (length image.now ≡ image_size) × ((length numbers.now ≡ 256) × ((notes.old ≡ replicate 256 256) × ((length roots.old ≡ 256) × ((length hung.old ≡ 256) × (length received.old ≡ 256))))) }
-    ensures { Noting (lives_ok image.now) (tickets_in image.now) numbers.now (entries_in image.now) notes.new result.ok × (result.ok ≡ true → Listed numbers.now (entries_in image.now) roots.new hung.new received.new result.roots result.hung) }
+    ensures { Noting (lives_ok image.now) (tickets_in image.now) numbers.now (entries_in image.now) notes.new (is_some result) × IfSome result (λ n. Listed numbers.now (entries_in image.now) roots.new hung.new received.new n.roots n.hung) }
 {
-    let mut a: usize = 0;
-    let mut b: usize = 0;
-    let mut i: usize = 0;
-    while i < 256 {
-        let at = i;
-        let said = image_read::live_at(image, at);
-        let e = image_read::entry_at(image, at);
-        i = i + 1;
-        if 1 < said {
-            return refused();
+    let mut listed = Entries { roots: 0, hung: 0 };
+    for i in 0..256 {
+        if 1 < image_read::live_at(image, i) {
+            return None;
         }
+        let e = image_read::entry_at(image, i);
         if e.live {
-            let p = grant_place(image, numbers, e);
-            if 256 <= p {
-                return refused();
-            }
+            let p = grant_place(image, numbers, e)?;
             if notes[p] < 256 {
-                return refused();
+                return None;
             }
-            let place = at as u16;
+            let place = i as u16;
             notes[p] = place;
-            roots[a] = place;
-            hung[b] = place;
-            received[b] = p as u16;
-            a = a + order_lists::one_if(order_lists::is_root(e));
-            b = b + order_lists::one_if(order_lists::is_hung(e));
+            roots[listed.roots] = place;
+            hung[listed.hung] = place;
+            received[listed.hung] = p as u16;
+            listed.roots += usize::from(order_lists::is_root(e));
+            listed.hung += usize::from(order_lists::is_hung(e));
         }
     }
-    Entries {
-        ok: true,
-        roots: a,
-        hung: b,
-    }
+    Some(listed)
 }
 
 // The place of the entry of a name, or 256.
+#[tactic(auto, using(crate::proofs::NoteSteps::note_none, crate::proofs::NoteSteps::note_here))]
 pub fn note_of(numbers: &[u16], notes: &[u16], n: Name) -> u16
     requires { (length numbers.now ≡ 256) × (length notes.now ≡ 256) }
     ensures { result ≡ note_of numbers.now notes.now n }
 {
     let p = image_places::place_of(numbers, n);
-    if 256 <= p {
-        return 256;
-    }
-    notes[p]
+    if p < 256 { notes[p] } else { 256 }
 }

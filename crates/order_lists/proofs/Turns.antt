@@ -2,8 +2,9 @@
 use Prim.Native.Nat.{ℕ, ◌+◌, ◌≤◌, ◌<◌}
 use native.Mathlib.Omega.{arith}
 use mathlib.Core.Path.{◌≡◌, sym, subst, ◌∙◌}
-use mathlib.Core.Bool.{Bool, true, false, cond}
+use mathlib.Core.Bool.{Bool, true, false}
 use mathlib.Core.List.{List}
+use mir.Val.{bool_byte as from_bool}
 use lib.Dec.{eqb}
 use lib.ListN.{length, get_or, set}
 use lib.Seq.{get_or-set_same, get_or-set_other}
@@ -101,7 +102,7 @@ module _ {A : Type 0} (d : A) (test : A → Bool) (xs : List A) where
         at p h t (pass q) = record { at = count; low = omega arith; here = new ∙ sym (eqb-true p i q) }
         at p h t (fail q) = stays p (count + 1) (omega arith) (so.all p (omega (arith, h, eqb-false p i q)) t)
 
-    pub listed_turn : (x : A) → x ≡ get_or xs i d → (b : Bool) → b ≡ test x → (more : ℕ) → more ≡ cond b 1 0
+    pub listed_turn : (x : A) → x ≡ get_or xs i d → (b : Bool) → b ≡ test x → (more : ℕ) → more ≡ from_bool b
         → Listing d test xs (i + 1) now (count + more)
     listed_turn x here true e more m =
         subst (λ (n : ℕ). Listing d test xs (i + 1) now (count + n)) (sym m) (push (sym (subst (λ (y : A). true ≡ test y) here e)))

@@ -2,8 +2,9 @@
 use Prim.Native.Nat.{ℕ, ◌+◌, ◌≤◌, ◌<◌}
 use native.Mathlib.Omega.{arith}
 use mathlib.Core.Path.{◌≡◌, sym, ap, subst, ◌∙◌}
-use mathlib.Core.Bool.{Bool, true, false, cond}
+use mathlib.Core.Bool.{Bool, true, false}
 use mathlib.Core.List.{List}
+use mir.Val.{bool_byte as from_bool}
 use lib.Dec.{eqb}
 use lib.ListN.{length, get_or, set, take}
 use lib.Seq.{get_or-set_same, get_or-set_other, get_or-take, length-take-le}
@@ -11,7 +12,8 @@ use borrow.Author.Tests.{eqb-true, eqb-false}
 use Rattle.lists.proofs.Tests.{Case, pass, fail, case}
 use Rattle.order_lists.specs.Listing.{Listing, Beside, Source, Values}
 
-one_more : (b : Bool) (more : ℕ) → more ≡ cond b 1 0 → more ≤ 1
+-- a list grows by one at most
+pub one_more : (b : Bool) (more : ℕ) → more ≡ from_bool b → more ≤ 1
 one_more true more e = omega (arith, e)
 one_more false more e = omega (arith, e)
 
@@ -21,7 +23,7 @@ module _ {A : Type 0} (d : A) (value : A → ℕ) (m : ℕ) (xs : List A) where
 
   -- place i and its value are written behind the lists' ends
   pub beside_turn : (places values : List ℕ) (count : ℕ) → Beside d value m xs places values count → count < length places → count < length values
-      → (i v : ℕ) (x : A) → x ≡ get_or xs i d → v ≡ value x → v < m → (b : Bool) (more : ℕ) → more ≡ cond b 1 0
+      → (i v : ℕ) (x : A) → x ≡ get_or xs i d → v ≡ value x → v < m → (b : Bool) (more : ℕ) → more ≡ from_bool b
       → Beside d value m xs (set places count i) (set values count v) (count + more)
   beside_turn places values count so room also i v x this is small b more e = record {
     low = λ j h. below j h (case (eqb j count));
