@@ -2,8 +2,9 @@
 use Prim.Native.Nat.{ℕ, ◌+◌, ◌≤◌, ◌<◌}
 use native.Mathlib.Omega.{arith}
 use mathlib.Core.Path.{◌≡◌, refl, sym, ap, ◌∙◌}
-use mathlib.Core.Bool.{Bool, true, false, ◌&&◌, cond}
+use mathlib.Core.Bool.{Bool, true, false, ◌&&◌}
 use mathlib.Core.List.{List}
+use mir.Val.{bool_byte as from_bool}
 use lib.Dec.{leb}
 use lib.ListN.{length, get_or, set, replicate, length-set}
 use borrow.Author.Count.{below_more}
@@ -124,7 +125,7 @@ module _ (image : List ℕ) where
           }
 
           module _ (x y z : Bool) (ex : x ≡ is_taken k.kind) (ey : y ≡ is_child k.kind) (ez : z ≡ is_recall k.kind)
-              (p q r : ℕ) (ep : p ≡ cond x 1 0) (eq : q ≡ cond y 1 0) (er : r ≡ cond z 1 0) where
+              (p q r : ℕ) (ep : p ≡ from_bool x) (eq : q ≡ from_bool y) (er : r ≡ from_bool z) where
             pub passed_live : Passed (i + 1) (set numbers i k.number) (set taken a i) (set children b i) (set recalls c i) (a + p) (b + q) (c + r)
             passed_live = record {
               kinds = kinds_more;

@@ -4,7 +4,7 @@
 
 #![tactic(auto)]
 
-ghost use Rattle.std.specs.Prelude.{◌<◌, ◌≡◌, true, false, ◌&&◌, length, replicate};
+ghost use Rattle.std.specs.Prelude.{◌<◌, ◌≡◌, ◌&&◌, length, replicate, is_some, IfSome};
 ghost use Rattle.lists.specs.Tests.{between};
 ghost use Rattle.tables.specs.declared.Tables.{Tables};
 ghost use Rattle.tables.specs.Lookup.{Sized};
@@ -17,36 +17,23 @@ ghost use Rattle.order_programs.specs.Parts.{grant_ok, is_new, ticket_ok, Indexe
 
 use tables::{Name, Ticket};
 
-// Are kinds, numbers, spans and dock names as they should be; and how many taken grants, children and recalls are listed?
+// How many taken grants, children and recalls are listed?
 #[derive(Clone, Copy)]
 pub struct Tickets {
-    pub ok: bool,
     pub taken: usize,
     pub children: usize,
     pub recalls: usize,
 }
 
-fn refused() -> Tickets
-    ensures { result.ok ≡ false }
-{
-    Tickets {
-        ok: false,
-        taken: 0,
-        children: 0,
-        recalls: 0,
-    }
-}
-
 // One by one, up to the first that is the same: the numbers were written a moment ago, and a wide load of them would wait for that.
+#[tactic(auto, using(crate::proofs::Numbers::found_old, crate::proofs::Numbers::none_old))]
 fn is_new(numbers: &[u16], number: u16) -> bool
     ensures { result ≡ is_new number numbers.now }
 {
-    let mut i: usize = 0;
-    while i < numbers.len() {
-        if numbers[i] == number {
+    for &x in numbers {
+        if x == number {
             return false;
         }
-        i = i + 1;
     }
     true
 }
@@ -55,92 +42,66 @@ fn is_new(numbers: &[u16], number: u16) -> bool
 fn number_ok(numbers: &[u16], last: u16, number: u16) -> bool
     ensures { result ≡ (between 1 last number && is_new number numbers.now) }
 {
-    if !order_rules::is_between(1, last, number) {
-        return false;
-    }
-    is_new(numbers, number)
+    order_rules::is_between(1, last, number) && is_new(numbers, number)
 }
 
 // T2 and T4, of one ticket.
+#[tactic(auto, unfolding(crate::specs::Parts::grant_ok, lists::specs::Tests::implies, tables::specs::Names::eq_name))]
 fn grant_ok(n: Name, k: Ticket) -> bool
     ensures { result ≡ grant_ok n k }
 {
-    let kind = k.kind;
-    if !kind.is_grant() {
-        return true;
-    }
-    if !order_rules::span_ok(k) {
-        return false;
-    }
-    if !kind.is_head() {
-        return true;
-    }
-    let d = k.dock;
-    d.is(n)
+    !k.kind.is_grant() || order_rules::span_ok(k) && (!k.kind.is_head() || k.dock == n)
 }
 
 // T1, T2 and T4, of the ticket at a place: its number is looked for among those of the places before it in its program.
+#[tactic(auto, unfolding(crate::specs::Parts::ticket_ok))]
 fn ticket_ok(image: &[u8], numbers: &[u16], at: usize, k: Ticket) -> bool
     requires { (length image.now ≡ image_size) × ((length numbers.now ≡ 256) × (at < 256)) }
     ensures { result ≡ ticket_ok (lasts_in image.now) numbers.now at k }
 {
     let program = at / 8;
-    let from = 8 * program;
     let last = image_read::last_at(image, program);
-    if !number_ok(&numbers[from..at], last, k.number) {
-        return false;
-    }
-    let n = Name {
-        pad: (at / 64) as u16,
-        program: (at / 8 % 8) as u16,
-        number: k.number,
-    };
-    grant_ok(n, k)
+    number_ok(&numbers[8 * program..at], last, k.number)
+        && grant_ok(image_places::name_at(at, k.number), k)
 }
 
 // `numbers` is lent with 0 at each place; where all is well, it then has the number of each live ticket, and the lists have the places. A
-// live ticket's place is written behind the lists' ends, and only the list that it belongs to grows.
+// live ticket's place is written behind each list's end, and only the list that it belongs to grows: no branch depends on which that is.
+// None where kinds, numbers, spans or dock names are not as they should be.
 pub fn programs_ok(
     image: &[u8],
     numbers: &mut [u16],
     taken: &mut [u16],
     children: &mut [u16],
     recalls: &mut [u16],
-) -> Tickets
+) -> Option<Tickets>
     requires { (length image.now ≡ image_size) × ((numbers.old ≡ replicate 256 0) × ((length taken.old ≡ 256) × ((length children.old ≡ 256) × (length recalls.old ≡ 256)))) }
-    ensures { ((t : Tables) → Sized t → Flattened t (tickets_in image.now) (lasts_in image.now) → result.ok ≡ (kinds_ok image.now && (t1 t && t2 t && t4 t))) × (result.ok ≡ true → Indexed (tickets_in image.now) numbers.new taken.new children.new recalls.new result.taken result.children result.recalls) }
+    ensures { ((t : Tables) → Sized t → Flattened t (tickets_in image.now) (lasts_in image.now) → is_some result ≡ (kinds_ok image.now && (t1 t && t2 t && t4 t))) × IfSome result (λ n. Indexed (tickets_in image.now) numbers.new taken.new children.new recalls.new n.taken n.children n.recalls) }
 {
-    let mut a: usize = 0;
-    let mut b: usize = 0;
-    let mut c: usize = 0;
-    let mut i: usize = 0;
-    while i < 256 {
-        let at = i;
-        let said = image_read::kind_at(image, at);
-        i = i + 1;
+    let mut listed = Tickets {
+        taken: 0,
+        children: 0,
+        recalls: 0,
+    };
+    for i in 0..256 {
+        let said = image_read::kind_at(image, i);
         if 4 < said {
-            return refused();
+            return None;
         }
         if said != 0 {
-            let k = image_read::ticket_at(image, at);
-            if !ticket_ok(image, numbers, at, k) {
-                return refused();
+            let k = image_read::ticket_at(image, i);
+            if !ticket_ok(image, numbers, i, k) {
+                return None;
             }
-            numbers[at] = k.number;
-            let place = at as u16;
-            taken[a] = place;
-            children[b] = place;
-            recalls[c] = place;
-            let kind = k.kind;
-            a = a + order_lists::one_if(kind.is_taken());
-            b = b + order_lists::one_if(kind.is_child());
-            c = c + order_lists::one_if(kind.is_recall());
+            numbers[i] = k.number;
+            let place = i as u16;
+            taken[listed.taken] = place;
+            children[listed.children] = place;
+            recalls[listed.recalls] = place;
+            listed.taken += usize::from(k.kind.is_taken());
+            listed.children += usize::from(k.kind.is_child());
+            listed.recalls += usize::from(k.kind.is_recall());
         }
     }
-    Tickets {
-        ok: true,
-        taken: a,
-        children: b,
-        recalls: c,
-    }
+    Some(listed)
 }
