@@ -1,11 +1,12 @@
 -- Keys by cases, as the code computes them; the keys of the listed recalls written one after the other.
-use Prim.Native.Nat.{ℕ, zero, suc, ◌+◌, ◌*◌, ◌≤◌, ◌<◌}
+use Prim.Native.Nat.{ℕ, ◌+◌, ◌*◌, ◌≤◌, ◌<◌}
 use native.Mathlib.Omega.{arith}
-use mathlib.Core.Path.{◌≡◌, refl, sym, ap, ◌∙◌, subst}
+use mathlib.Core.Path.{◌≡◌, sym, ap, ◌∙◌, subst}
 use mathlib.Core.Bool.{true, false}
-use mathlib.Core.List.{List, [], ◌∷◌, map}
+use mathlib.Core.List.{List, map}
 use lib.ListN.{length, get_or, set, length-map}
 use lib.Seq.{ext_get_or}
+use Rattle.std.proofs.lemmas.List.{get_or-map}
 use borrow.Author.Tests.{lt-ltb, le-ltb}
 use Rattle.tables.specs.declared.{Name.Name, Ticket.Ticket}
 use Rattle.tables.specs.Names.{free}
@@ -36,11 +37,6 @@ module _ (numbers : List ℕ) (k : Ticket) where
   key_recall e = rw e
 
 -- ---- the keys written one after the other
-pub get_or_mapped : {A B : Type 0} (g : A → B) (l : List A) (i : ℕ) (d : A) (e : B) → i < length l → get_or (map g l) i e ≡ g (get_or l i d)
-get_or_mapped g [] i d e h = absurd (omega arith)
-get_or_mapped g (x ∷ xs) zero d e h = refl
-get_or_mapped g (x ∷ xs) (suc i) d e h = get_or_mapped g xs i d e (omega arith)
-
 module _ (numbers : List ℕ) (ks : List Ticket) (recalls : List ℕ) where
   -- the first i listed keys stand
   abbrev pub Written : ℕ → List ℕ → Type 0
@@ -60,4 +56,4 @@ module _ (numbers : List ℕ) (ks : List Ticket) (recalls : List ℕ) where
         (λ p l.
         filled_end 256 256 (λ q. target_key numbers (get_or ks q free)) recalls free (λ k. is_recall k.kind) ks (length recalls) listing
         (λ q g r. sym (key_none numbers (get_or ks q free) r)) i keys h so p (omega (arith, so.long, l))
-        ∙ sym (get_or_mapped (target_key numbers) ks p free 0 (omega (arith, so.long, long, l))))
+        ∙ sym (get_or-map (target_key numbers) ks p free 0 (omega (arith, so.long, long, l))))

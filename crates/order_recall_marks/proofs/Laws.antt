@@ -10,6 +10,7 @@ use mathlib.Core.List.{List, map}
 use lib.Dec.{ltb, eqb}
 use lib.ListN.{length, get_or, length-map}
 use borrow.Author.Tests.{not-true, ltb-true, ltb-false, lt-ltb, eqb-true, eq-eqb, ne_eqb}
+use Rattle.std.proofs.lemmas.List.{get_or-map}
 use Rattle.lists.specs.Tests.{implies}
 use Rattle.lists.specs.Lists.{all, some, no_two}
 use Rattle.lists.proofs.Tests.{Case, pass, fail, case, contradiction, both_ways, not_test, and_l, and_r, and_intro, implies_intro, implies_elim}
@@ -25,7 +26,7 @@ use Rattle.image_places.proofs.Laws.{every_placed, placed_every, some_placed, pl
 use Rattle.order_lists.specs.Listing.{Source, TicketsListed, ReceivedListed, is_hung}
 use Rattle.order_lists.proofs.Laws.{listed_all}
 use Rattle.order_recall_marks.specs.Keys.{key_of, target_key, is_place, is_dead, KeysListed, is_marked}
-use Rattle.order_recall_marks.proofs.KeySteps.{dead_key, key_place, key_dead, key_none, key_recall, get_or_mapped}
+use Rattle.order_recall_marks.proofs.KeySteps.{dead_key, key_place, key_dead, key_none, key_recall}
 use Rattle.tables.specs.Kinds.{is_live, is_child, is_recall}
 
 -- T6's tests of two tickets: no other recall has k's target; some recall has the target n
@@ -97,7 +98,7 @@ module _ (numbers : List ℕ) (k : Ticket) where
 -- the key at a place is its ticket's
 pub key_written : (numbers keys : List ℕ) (ks : List Ticket) → keys ≡ map (target_key numbers) ks → (i : ℕ) → i < length ks
     → get_or keys i 0 ≡ target_key numbers (get_or ks i free)
-key_written numbers keys ks e i h = ap (λ (l : List ℕ). get_or l i 0) e ∙ get_or_mapped (target_key numbers) ks i free 0 h
+key_written numbers keys ks e i h = ap (λ (l : List ℕ). get_or l i 0) e ∙ get_or-map (target_key numbers) ks i free 0 h
 
 -- the places that have a key are those of the recalls
 pub keys_listed : (numbers keys : List ℕ) (ks : List Ticket) (recalls : List ℕ) → keys ≡ map (target_key numbers) ks → length ks ≡ 256
@@ -115,7 +116,7 @@ keys_listed numbers keys ks recalls e long listing = record {
 }
   where
     here : (p : ℕ) → p < 256 → get_or keys p 256 ≡ target_key numbers (get_or ks p free)
-    here p h = ap (λ (l : List ℕ). get_or l p 256) e ∙ get_or_mapped (target_key numbers) ks p free 256 (omega (arith, long, h))
+    here p h = ap (λ (l : List ℕ). get_or l p 256) e ∙ get_or-map (target_key numbers) ks p free 256 (omega (arith, long, h))
 
 module _ (t : Tables) (numbers : List ℕ) (ix : Numbered t numbers) where
   -- a place has one name

@@ -5,45 +5,21 @@ use Prim.Native.Nat.{ℕ, ◌+◌, ◌≤◌, ◌<◌}
 use native.Mathlib.Numerals.{add-one}
 use native.Mathlib.Omega.{arith}
 use mathlib.Core.Path.{◌≡◌, refl, sym, ap, ◌∙◌, subst}
-use mathlib.Core.Bool.{Bool, true, false, ◌||◌}
+use mathlib.Core.Bool.{Bool, true, false, ◌||◌, or-false}
 use mathlib.Core.List.{List, [], ◌∷◌, ◌++◌}
 use lib.Dec.{ltb, eqb}
 use lib.ListN.{length, get_or, set, take, replicate, length-replicate, get_or-replicate, length-set}
 use lib.Seq.{get_or-set_same, get_or-set_other, take-suc-set}
 use borrow.Author.Count.{below_more}
 use borrow.Author.Tests.{ltb-true, ltb-false, lt-ltb, eqb-true, eqb-false, eq-eqb, ne_eqb}
+use Rattle.std.specs.List.{list_any}
+use Rattle.std.proofs.lemmas.List.Folds.{list_any-append}
 use Rattle.lists.specs.Lists.{some, no_two}
 use Rattle.lists.proofs.Tests.{Case, pass, fail, case, no_true, contradiction, cannot_pass, both_ways, not_test, or_left, or_right}
 use Rattle.lists.proofs.Everywhere.{some_intro, some_elim, no_two_intro, no_two_elim}
 use Rattle.lists.proofs.Reading.{any_default}
 use Rattle.order_lists.specs.Listing.{Spot}
 use Rattle.order_recall_marks.specs.Keys.{is_place, is_dead, KeysListed, Marked}
-
--- ---- a number among others
--- the number at i, and no other before it, is x
-pub has_here : (l : List ℕ) (x i : ℕ) → i < length l → get_or l i 0 ≡ x → true ≡ some (λ y. eqb y x) l
-has_here l x i h e = sym (some_intro 0 (λ y. eqb y x) l i h (eq-eqb (get_or l i 0) x e))
-
-pub has_none : (l : List ℕ) (x i : ℕ) → length l ≤ i → ((j : ℕ) → j < i → get_or l j 0 ≡ x → ⊥) → false ≡ some (λ y. eqb y x) l
-has_none l x i h none = sym (cannot_pass (some (λ y. eqb y x) l) found)
-  where
-    found : some (λ y. eqb y x) l ≡ true → ⊥
-    found e =
-        let w = some_elim 0 (λ y. eqb y x) l e in
-        none w.place (omega (arith, w.low)) (eqb-true (get_or l w.place 0) x w.passes)
-
-has_snoc : (l : List ℕ) (a x : ℕ) → some (λ y. eqb y x) (l ++ (a ∷ [])) ≡ (some (λ y. eqb y x) l || eqb a x)
-unfolding some
-has_snoc [] a x = or_none (eqb a x)
-  where
-    or_none : (b : Bool) → (b || false) ≡ (false || b)
-    or_none true = refl
-    or_none false = refl
-has_snoc (b ∷ l) a x = ap (λ (r : Bool). eqb b x || r) (has_snoc l a x) ∙ or_assoc (eqb b x) (some (λ y. eqb y x) l) (eqb a x)
-  where
-    or_assoc : (p q r : Bool) → (p || (q || r)) ≡ (p || q || r)
-    or_assoc true q r = refl
-    or_assoc false q r = refl
 
 -- ---- the listed places
 module _ (keys places : List ℕ) (long : length keys ≡ 256) (listing : KeysListed keys places) where
@@ -210,7 +186,7 @@ module _ (keys places : List ℕ) where
 
   -- ---- the dead keys, listed one after the other
   abbrev listed : ℕ → List ℕ → ℕ → Bool
-  listed count dead x = some (λ y. eqb y x) (take count dead)
+  listed count dead x = list_any (λ y. eqb y x) (take count dead)
 
   pub record Dead (i count : ℕ) (dead : List ℕ) : Type 0 where
     pub long : length dead ≡ 256
@@ -218,16 +194,6 @@ module _ (keys places : List ℕ) where
     pub apart : Apart is_dead i
     pub hit : (a : ℕ) → a < i → 256 < key a → listed count dead (key a) ≡ true
     pub from : (x : ℕ) → listed count dead x ≡ true → Before i x
-
-  pub dead_none : (dead : List ℕ) → length dead ≡ 256 → Dead 0 0 dead
-  unfolding some
-  dead_none dead e = record {
-    long = e;
-    few = omega arith;
-    apart = apart_none is_dead;
-    hit = λ a h. absurd (omega (arith, h));
-    from = λ x h. no_true h;
-  }
 
   module _ (i count : ℕ) (dead : List ℕ) (m : Dead i count dead) where
     -- one turn, with x the key there
@@ -258,7 +224,7 @@ module _ (keys places : List ℕ) where
             one_more y =
                 let e : take (count + 1) (set dead count x) ≡ take count dead ++ (x ∷ [])
                 = rw add-one (take-suc-set dead count x (omega (arith, m.few, m.long, room))) in
-                ap (some (λ z. eqb z y)) e ∙ has_snoc (take count dead) x y
+                ap (list_any (λ z. eqb z y)) e ∙ list_any-append (λ z. eqb z y) (take count dead) (x ∷ []) ∙ ap (λ (r : Bool). listed count dead y || r) (or-false (eqb x y))
 
             hit : (a : ℕ) → a < i + 1 → 256 < key a → listed (count + 1) (set dead count x) (key a) ≡ true
             hit =

@@ -1,11 +1,7 @@
--- `dead_once`: the list has the dead ones of the first i listed keys (`Dead` in Seen), and those keys are apart. A key in it was seen before.
-use Prim.Native.Nat.{◌-◌, ◌≤◌}
-use lib.ListN.{length}
+-- `dead_once`: the list has the dead ones of the listed keys before the index (`Dead` in Seen), and those keys are apart. A key in it was
+-- seen before.
 use Rattle.order_recall_marks.proofs.Seen.{Dead}
 use Rattle.order_recall_marks.proofs.dead_once.Given as goal
 
-abbrev pub invariant-loop-i : goal.invariant-loop-i
-invariant-loop-i l = (l.i ≤ length l.recalls) × Dead l.keys l.recalls l.i l.count l.dead
-
-abbrev pub decreases-loop-i : goal.decreases-loop-i
-decreases-loop-i l = length l.recalls - l.i
+abbrev pub invariant-loop-at : goal.invariant-loop-at
+invariant-loop-at l = Dead l.keys l.recalls l.at-index l.count l.dead
