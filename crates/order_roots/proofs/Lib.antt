@@ -1,2 +1,1 @@
-mod Marking
 mod Roots

@@ -13,10 +13,7 @@ fn mark(marks: &mut [u8], first: usize, count: usize) -> bool
     requires { first + count ≤ length marks.old }
     ensures { Marked first count marks.old marks.new result }
 {
-    let mut i: usize = 0;
-    while i < count {
-        let s = first + i;
-        i = i + 1;
+    for s in first..first + count {
         if marks[s] != 0 {
             return false;
         }
@@ -30,17 +27,12 @@ pub fn roots_apart(image: &[u8], roots: &[u16]) -> bool
     requires { (length image.now ≡ image_size) × EntriesListed is_root (entries_in image.now) roots.now }
     ensures { Spanned (entries_in image.now) → result ≡ roots_in (entries_in image.now) }
 {
-    let mut marks: [u8; 256] = [0; 256];
-    let mut i: usize = 0;
-    while i < roots.len() {
-        let e = image_read::entry_at(image, roots[i] as usize);
-        i = i + 1;
-        let first = e.first as usize;
-        let count = e.count as usize;
-        if 256 < first + count {
-            return false;
-        }
-        if !mark(&mut marks, first, count) {
+    let mut marks = [0u8; 256];
+    for &at in roots {
+        let e = image_read::entry_at(image, usize::from(at));
+        let first = usize::from(e.first);
+        let count = usize::from(e.count);
+        if 256 < first + count || !mark(&mut marks, first, count) {
             return false;
         }
     }
