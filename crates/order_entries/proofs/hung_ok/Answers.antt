@@ -1,28 +1,30 @@
 -- No entry listed: nothing to ask. Else the parents decide, and then their chains.
 use native.Mathlib.Omega.{arith}
+use mathlib.Core.Path.{sym, ◌∙◌}
+use borrow.Author.Tests.{eqb-true}
 use Rattle.image_read.proofs.Places.{entries_long}
 use Rattle.order_entries.proofs.Hanging.{no_links, links_listed, by_chains, none_hung}
 use Rattle.order_entries.proofs.hung_ok.Goals as goal
 
-pub returns-then-hung-eq0 : goal.returns-then-hung-eq0
-returns-then-hung-eq0 c =
-    none_hung _ _ _ (entries_long c.args.image.now) _ c.requires.1.1.1 c.if-hung-eq0.true
+pub returns-then-is_empty : goal.returns-then-is_empty
+returns-then-is_empty c =
+    none_hung _ _ _ (entries_long c.args.image.now) _ c.requires.1.1.1 (eqb-true _ _ (sym c.is_empty.ensures ∙ c.if-is_empty.true))
 
-pub returns-then-not-link_entries : goal.returns-then-not-link_entries
-returns-then-not-link_entries c =
-    no_links _ _ _ (entries_long c.args.image.now) _ c.requires.1.1.1 _ _ c.link_entries.ensures c.if-not-link_entries.true
+pub returns-else-link_entries : goal.returns-else-link_entries
+returns-else-link_entries c =
+    c.if-link_entries.false
+    ∙ no_links _ _ _ (entries_long c.args.image.now) _ c.requires.1.1.1 _ _ c.link_entries.ensures c.if-link_entries.false
 
 pub chains_end-requires : goal.chains_end-requires
 chains_end-requires c = (
-  omega (arith, c.link_entries.auto.up),
+  omega arith,
   (
     c.requires.1.1.1.low,
-    links_listed _ _ _ (entries_long c.args.image.now) _
-        c.requires.1.1.1 _ _ c.link_entries.ensures c.if-not-link_entries.false,
+    links_listed _ _ _ (entries_long c.args.image.now) _ c.requires.1.1.1 _ _ c.link_entries.ensures c.if-link_entries.true,
   ),
 )
 
-pub returns : goal.returns
-returns c =
-    by_chains _ _ _ (entries_long c.args.image.now) _ c.requires.1.1.1 _ _ c.link_entries.ensures c.if-not-link_entries.false _
+pub returns-then-link_entries : goal.returns-then-link_entries
+returns-then-link_entries c =
+    by_chains _ _ _ (entries_long c.args.image.now) _ c.requires.1.1.1 _ _ c.link_entries.ensures c.if-link_entries.true _
     c.chains_end.ensures
