@@ -1,4 +1,3 @@
-pub mod AllNone
-mod OneRecall
+pub mod OneRecall
 mod Whole
 mod NoRecalls

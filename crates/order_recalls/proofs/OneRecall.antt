@@ -8,7 +8,7 @@ use mathlib.Core.List.{List, map}
 use lib.Dec.{ltb}
 use lib.ListN.{length, get_or, get_or-eq_default}
 use borrow.Author.Count.{below_more}
-use borrow.Author.Tests.{not-true, not-false, ltb-true, ltb-false, eq-eqb, ne_eqb, lt-leb, le-leb}
+use borrow.Author.Tests.{ltb-true, ltb-false, eq-eqb, ne_eqb}
 use Rattle.lists.specs.Tests.{implies, between}
 use Rattle.lists.proofs.Tests.{Case, pass, fail, case, contradiction, cannot_pass, and_l}
 use Rattle.lists.proofs.Reading.{any_default}
@@ -39,22 +39,6 @@ parent_live k e = live_grant k.kind (and_l (is_grant k.kind) _ e)
 child_live : (n : Name) (k : Ticket) → is_child_of n k ≡ true → is_live k.kind ≡ true
 unfolding is_child_of
 child_live n k e = live_child k.kind (and_l (is_child k.kind) _ e)
-
--- the code's test of a number that was given
-pub not_given_pad : (lasts : List ℕ) (n : Name) → 3 < n.pad → false ≡ (is_program n.pad n.program && between 1 (get_or lasts (8 * n.pad + n.program) 0) n.number)
-unfolding is_program
-not_given_pad lasts n h = rw (lt-leb n.pad 3 h)
-
-pub not_given_program : (lasts : List ℕ) (n : Name) → n.pad ≤ 3 → 7 < n.program
-    → false ≡ (is_program n.pad n.program && between 1 (get_or lasts (8 * n.pad + n.program) 0) n.number)
-unfolding is_program
-not_given_program lasts n p h = rw (le-leb n.pad 3 p, lt-leb n.program 7 h)
-
-pub given_number : (lasts : List ℕ) (n : Name) → n.pad ≤ 3 → n.program ≤ 7
-    → between 1 (get_or lasts (8 * n.pad + n.program) 0) n.number
-    ≡ (is_program n.pad n.program && between 1 (get_or lasts (8 * n.pad + n.program) 0) n.number)
-unfolding is_program
-given_number lasts n p q = rw (le-leb n.pad 3 p, le-leb n.program 7 q)
 
 -- ---- the recall k at a place, as the code has it: the name of its grant, that name's place, and the key of its target
 pub record Picked (image numbers keys : List ℕ) (i : ℕ) (k : Ticket) (own : Name) (place : ℕ) : Type 0 where
@@ -288,8 +272,8 @@ module _ {t : Tables} {image numbers notes : List ℕ} (ix : LaidOut t image num
               by_note : recall_holds t n k ≡ r
               by_note = by_entry ∙ ap entry_fits (ap (λ (p : ℕ). get_or (entries_in image) p no_entry) (sym noted) ∙ sym read) ∙ sym told
 
-              pub far_bad : not r ≡ true → false ≡ every_ticket is_recall (recall_holds t) t
-              far_bad l = not_held (by_note ∙ not-true r l)
+              pub far_bad : r ≡ false → false ≡ every_ticket is_recall (recall_holds t) t
+              far_bad l = not_held (by_note ∙ l)
 
-              pub far_ok : not r ≡ false → recall_holds t n k ≡ true
-              far_ok l = by_note ∙ not-false r l
+              pub far_ok : r ≡ true → recall_holds t n k ≡ true
+              far_ok l = by_note ∙ l

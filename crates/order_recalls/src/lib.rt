@@ -4,66 +4,40 @@
 
 #![tactic(auto)]
 
-ghost use Rattle.std.specs.Prelude.{◌+◌, ◌*◌, ◌<◌, ◌≡◌, not, ◌&&◌, map, eqb, length, get_or};
+ghost use Rattle.std.specs.Prelude.{◌+◌, ◌*◌, ◌≡◌, not, ◌&&◌, map, length, get_or};
 ghost use Rattle.lists.specs.Tests.{between};
 ghost use Rattle.tables.specs.declared.Tables.{Tables};
 ghost use Rattle.tables.specs.Kinds.{is_child, is_recall};
 ghost use Rattle.tables.specs.Names.{is_program, free};
-ghost use Rattle.tables.specs.Chains.{own_name};
 ghost use Rattle.tables.specs.Order.{every_ticket, t6};
 ghost use Rattle.image.specs.Layout.{image_size};
-ghost use Rattle.image_places.specs.Places.{name_at};
 ghost use Rattle.image_read.specs.Places.{tickets_in, lasts_in, entries_in};
 ghost use Rattle.order_lists.specs.Listing.{TicketsListed, ReceivedListed};
 ghost use Rattle.order_recall_marks.specs.Keys.{target_key};
 ghost use Rattle.order_recalls.specs.Recalls.{LaidOut, recall_holds};
 
-use tables::{Name, Ticket};
-
-// The name of the grant that the recall at a place stands under.
-fn own_name(place: usize, k: Ticket) -> Name
-    requires { place < 256 }
-    ensures { result ≡ own_name (name_at place k) k }
-{
-    Name {
-        pad: (place / 64) as u16,
-        program: (place / 8 % 8) as u16,
-        number: k.own,
-    }
-}
+use tables::Name;
 
 // A name whose number its program was given: between 1 and the last.
+#[tactic(auto, unfolding(tables::specs::Names::is_program))]
 fn was_given(image: &[u8], n: Name) -> bool
     requires { length image.now ≡ image_size }
     ensures { result ≡ (is_program n.pad n.program && between 1 (get_or (lasts_in image.now) (8 * n.pad + n.program) 0) n.number) }
 {
-    if 3 < n.pad {
+    if 3 < n.pad || 7 < n.program {
         return false;
     }
-    if 7 < n.program {
-        return false;
-    }
-    let last = image_read::last_at(
-        image,
-        8 * image_places::wide(n.pad) + image_places::wide(n.program),
-    );
+    let last = image_read::last_at(image, 8 * usize::from(n.pad) + usize::from(n.program));
     order_rules::is_between(1, last, n.number)
 }
 
 // A name that a recall of another pad may have: it was given, and is no live child.
+#[tactic(auto, using(image_read::proofs::Places::tickets_long))]
 fn may_name(image: &[u8], n: Name, key: usize) -> bool
     requires { length image.now ≡ image_size }
     ensures { result ≡ (is_program n.pad n.program && between 1 (get_or (lasts_in image.now) (8 * n.pad + n.program) 0) n.number && not (is_child (get_or (tickets_in image.now) key free).kind)) }
 {
-    if !was_given(image, n) {
-        return false;
-    }
-    if 256 <= key {
-        return true;
-    }
-    let k = image_read::ticket_at(image, key);
-    let kind = k.kind;
-    !kind.is_child()
+    was_given(image, n) && (256 <= key || !image_read::ticket_at(image, key).kind.is_child())
 }
 
 // The place of the entry of a target, by its key; 256 where there is none.
@@ -71,10 +45,11 @@ fn note_of(notes: &[u16], key: usize) -> usize
     requires { length notes.now ≡ 256 }
     ensures { result ≡ get_or notes.now key 256 }
 {
-    if 256 <= key {
-        return 256;
+    if key < 256 {
+        usize::from(notes[key])
+    } else {
+        256
     }
-    image_places::wide(notes[key])
 }
 
 // Each recall by itself: its parent is a grant with the pass on right, and its target a child of that grant, or a name on another pad whose
@@ -89,14 +64,11 @@ fn each_holds(
     requires { (length image.now ≡ image_size) × ((length numbers.now ≡ 256) × ((length notes.now ≡ 256) × (TicketsListed (λ k. is_recall k.kind) (tickets_in image.now) recalls.now × (keys.now ≡ map (target_key numbers.now) (tickets_in image.now))))) }
     ensures { (t : Tables) → LaidOut t image.now numbers.now notes.now → result ≡ every_ticket is_recall (recall_holds t) t }
 {
-    let mut i: usize = 0;
-    while i < recalls.len() {
-        let at = image_places::wide(recalls[i]);
-        i = i + 1;
+    for &at in recalls {
+        let at = usize::from(at);
         let key = keys[at];
         let k = image_read::ticket_at(image, at);
-        let own = own_name(at, k);
-        let target = k.other;
+        let own = image_places::name_at(at, k.own);
         let place = image_places::place_of(numbers, own);
         if 256 <= place {
             return false;
@@ -105,7 +77,7 @@ fn each_holds(
         if !order_rules::recall_parent_ok(grant) {
             return false;
         }
-        if target.pad == own.pad {
+        if k.other.pad == own.pad {
             if 256 < key {
                 return false;
             }
@@ -114,7 +86,7 @@ fn each_holds(
                 return false;
             }
         } else {
-            if !may_name(image, target, key) {
+            if !may_name(image, k.other, key) {
                 return false;
             }
             let note = note_of(notes, key);
@@ -127,19 +99,6 @@ fn each_holds(
         }
     }
     true
-}
-
-// Are all three empty?
-fn all_none(a: usize, b: usize, c: usize) -> bool
-    ensures { result ≡ (eqb a 0 && eqb b 0 && eqb c 0) }
-{
-    if a != 0 {
-        return false;
-    }
-    if b != 0 {
-        return false;
-    }
-    c == 0
 }
 
 // T6, in tables whose numbers are distinct (T1) and whose entries are noted at their grants' places. Children, and the grants that entries
@@ -155,23 +114,17 @@ pub fn recalls_ok(
     requires { (length image.now ≡ image_size) × ((length numbers.now ≡ 256) × ((length notes.now ≡ 256) × ((TicketsListed (λ k. is_child k.kind) (tickets_in image.now) children.now × TicketsListed (λ k. is_recall k.kind) (tickets_in image.now) recalls.now) × ReceivedListed numbers.now (entries_in image.now) received.now))) }
     ensures { (t : Tables) → LaidOut t image.now numbers.now notes.now → result ≡ t6 t }
 {
-    if all_none(recalls.len(), children.len(), received.len()) {
+    if recalls.is_empty() && children.is_empty() && received.is_empty() {
         return true;
     }
-    let mut keys: [usize; 256] = [256; 256];
+    let mut keys = [256usize; 256];
     order_recall_marks::write_keys(image, numbers, recalls, &mut keys);
     if !each_holds(image, numbers, notes, recalls, &keys) {
         return false;
     }
-    let mut marks: [u8; 256] = [0; 256];
-    if !order_recall_marks::mark_places(&keys, recalls, &mut marks) {
-        return false;
-    }
-    if !order_recall_marks::dead_once(&keys, recalls) {
-        return false;
-    }
-    if !order_recall_marks::all_marked(children, &marks) {
-        return false;
-    }
-    order_recall_marks::all_marked(received, &marks)
+    let mut marks = [0u8; 256];
+    order_recall_marks::mark_places(&keys, recalls, &mut marks)
+        && order_recall_marks::dead_once(&keys, recalls)
+        && order_recall_marks::all_marked(children, &marks)
+        && order_recall_marks::all_marked(received, &marks)
 }

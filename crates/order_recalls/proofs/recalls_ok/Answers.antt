@@ -2,26 +2,26 @@
 -- marks do.
 use native.Mathlib.Omega.{arith}
 use mathlib.Core.Path.{sym, subst, ◌∙◌}
+use borrow.Author.Tests.{eqb-true}
 use borrow.Author.Rules.{rules}
-use Rattle.lists.proofs.Tests.{passed, failed}
 use Rattle.image_read.specs.Places.{tickets_in}
 use Rattle.image_read.proofs.Places.{tickets_long}
 use Rattle.order_recall_marks.specs.Keys.{Marked}
 use Rattle.order_recall_marks.proofs.Laws.{keys_listed}
-use Rattle.order_recalls.proofs.AllNone.{nones}
 use Rattle.order_recalls.proofs.Whole.{targets_fit, not_each, two_places, two_dead, child_unmarked, whole}
 use Rattle.order_recalls.proofs.NoRecalls.{no_recalls}
-use mathlib.Core.Bool.{not}
-use mathlib.Core.Path.{ap}
 use Rattle.order_recalls.proofs.recalls_ok.Goals as goal
+use Rattle.order_recalls.proofs.recalls_ok.Goals.{then-dead_once, else-dead_once, then-mark_places, else-mark_places}
 
-pub returns-then-all_none : goal.returns-then-all_none
-returns-then-all_none c =
-    let q = nones _ _ _ (sym c.all_none.ensures ∙ c.if-all_none.true) in
-    λ t x. no_recalls x _ _ _ c.requires.1.1.1.0.0 c.requires.1.1.1.0.1 c.requires.1.1.1.1 q.first q.second q.last
+pub returns-then-is_empty-3 : goal.returns-then-is_empty-3
+returns-then-is_empty-3 c =
+    λ t x. no_recalls x _ _ _ c.requires.1.1.1.0.0 c.requires.1.1.1.0.1 c.requires.1.1.1.1
+    (eqb-true _ _ (sym c.is_empty.ensures ∙ c.if-is_empty.true))
+    (eqb-true _ _ (sym c.is_empty-then-is_empty.ensures ∙ c.if-is_empty-2.true))
+    (eqb-true _ _ (sym c.is_empty-then-is_empty-2.ensures ∙ c.if-is_empty-3.true))
 
 pub returns-then-not-each_holds : goal.returns-then-not-each_holds
-returns-then-not-each_holds c = λ t x. not_each x (failed (c.each_holds.ensures t x) (ap not c.if-not-each_holds.true))
+returns-then-not-each_holds c = λ t x. not_each x (sym (c.each_holds.ensures t x) ∙ c.if-not-each_holds.true)
 
 pub mark_places-requires : goal.mark_places-requires
 mark_places-requires c = (
@@ -29,45 +29,44 @@ mark_places-requires c = (
   (search rules, keys_listed c.args.numbers.now _ (tickets_in c.args.image.now) _ c.write_keys.ensures (tickets_long c.args.image.now) c.requires.1.1.1.0.1),
 )
 
-pub returns-then-not-mark_places : goal.returns-then-not-mark_places
-returns-then-not-mark_places c =
-    λ t x. two_places x (targets_fit c.args.image.now (λ i. omega (arith, c.shared_slice_known-1.given i))) c.write_keys.ensures
-    (failed c.mark_places.ensures.once (ap not c.if-not-mark_places.true))
-
 pub dead_once-requires : goal.dead_once-requires
 dead_once-requires c = (
   search rules,
   keys_listed c.args.numbers.now _ (tickets_in c.args.image.now) _ c.write_keys.ensures (tickets_long c.args.image.now) c.requires.1.1.1.0.1,
 )
 
-pub returns-then-not-dead_once : goal.returns-then-not-dead_once
-returns-then-not-dead_once c =
-    λ t x. two_dead x (targets_fit c.args.image.now (λ i. omega (arith, c.shared_slice_known-1.given i))) c.write_keys.ensures
-    (failed c.dead_once.ensures (ap not c.if-not-dead_once.true))
+pub returns-then-all_marked : goal.returns-then-all_marked
+returns-then-all_marked c =
+    let fits = targets_fit c.args.image.now (λ i. omega (arith, c.type_inv.image i)) in
+    λ t x. elim c.if-dead_once.branch [
+      | then-dead_once d ↦
+          elim c.if-mark_places.branch [
+            | then-mark_places m ↦
+                c.all_marked-then-all_marked.ensures
+                ∙ whole x fits c.write_keys.ensures (sym (c.each_holds.ensures t x) ∙ c.if-not-each_holds.false) _
+                (subst (Marked _ _) m.if-mark_places.true c.mark_places.ensures) (sym m.dead_once.ensures ∙ sym m.value-is ∙ d.if-dead_once.true) _ _
+                c.requires.1.1.1.0.0 c.requires.1.1.1.1 (sym d.all_marked.ensures ∙ sym d.value-is ∙ c.if-all_marked.true)
+            | else-mark_places m ↦ cc
+          ]
+      | else-dead_once d ↦ cc
+    ]
 
-pub all_marked-requires : goal.all_marked-requires
-all_marked-requires c =
-    c.requires.1.1.1.0.0.low
-
-pub returns-then-not-all_marked : goal.returns-then-not-all_marked
-returns-then-not-all_marked c =
-    let image = c.args.image.now in
-    λ t x. child_unmarked x (targets_fit image (λ i. omega (arith, c.shared_slice_known-1.given i))) c.write_keys.ensures
-    (passed (c.each_holds.ensures t x) (ap not c.if-not-each_holds.false)) _
-    (subst (Marked _ _) c.if-not-mark_places.false c.mark_places.ensures)
-    (passed c.dead_once.ensures (ap not c.if-not-dead_once.false)) _ c.requires.1.1.1.0.0
-    (failed c.all_marked.ensures (ap not c.if-not-all_marked.true))
-
-pub all_marked-requires-2 : goal.all_marked-requires-2
-all_marked-requires-2 c =
-    c.requires.1.1.1.1.low
-
-pub returns : goal.returns
-returns c =
-    let image = c.args.image.now in
-    λ t x. c.all_marked-2.ensures
-    ∙ whole x (targets_fit image (λ i. omega (arith, c.shared_slice_known-1.given i))) c.write_keys.ensures
-    (passed (c.each_holds.ensures t x) (ap not c.if-not-each_holds.false)) _
-    (subst (Marked _ _) c.if-not-mark_places.false c.mark_places.ensures)
-    (passed c.dead_once.ensures (ap not c.if-not-dead_once.false)) _ _ c.requires.1.1.1.0.0 c.requires.1.1.1.1
-    (passed c.all_marked.ensures (ap not c.if-not-all_marked.false))
+pub returns-else-all_marked : goal.returns-else-all_marked
+returns-else-all_marked c =
+    let fits = targets_fit c.args.image.now (λ i. omega (arith, c.type_inv.image i)) in
+    λ t x. c.if-all_marked.false
+    ∙ elim c.if-dead_once.branch [
+      | then-dead_once d ↦
+          elim c.if-mark_places.branch [
+            | then-mark_places m ↦
+                child_unmarked x fits c.write_keys.ensures (sym (c.each_holds.ensures t x) ∙ c.if-not-each_holds.false) _
+                (subst (Marked _ _) m.if-mark_places.true c.mark_places.ensures) (sym m.dead_once.ensures ∙ sym m.value-is ∙ d.if-dead_once.true) _
+                c.requires.1.1.1.0.0 (sym d.all_marked.ensures ∙ sym d.value-is ∙ c.if-all_marked.false)
+            | else-mark_places m ↦ cc
+          ]
+      | else-dead_once d ↦
+          elim c.if-mark_places.branch [
+            | then-mark_places m ↦ two_dead x fits c.write_keys.ensures (sym m.dead_once.ensures ∙ sym m.value-is ∙ d.if-dead_once.false)
+            | else-mark_places m ↦ two_places x fits c.write_keys.ensures (sym c.mark_places.ensures.once ∙ m.if-mark_places.false)
+          ]
+    ]
