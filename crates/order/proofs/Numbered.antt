@@ -2,7 +2,7 @@
 use Prim.Native.Nat.{ℕ, ◌/◌, ◌%◌, ◌≤◌, ◌<◌}
 use native.Mathlib.Omega.{arith}
 use mathlib.Core.Path.{◌≡◌, sym, ap, ◌∙◌, subst}
-use mathlib.Core.Bool.{true}
+use mathlib.Core.Bool.{true, ◌&&◌}
 use mathlib.Core.List.{List, map}
 use lib.Dec.{eqb}
 use lib.ListN.{length, get_or, length-map, get_or-map}
@@ -14,11 +14,17 @@ use Rattle.lists.proofs.Keyed.{Distinct, distinct_intro}
 use Rattle.tables.specs.declared.{Ticket.Ticket, Tables.Tables}
 use Rattle.tables.specs.Names.{free}
 use Rattle.tables.specs.Lookup.{Sized, tickets_of, last_of}
-use Rattle.tables.specs.Order.{numbers_ok, t1}
+use Rattle.tables.specs.Order.{numbers_ok, t1, t2, t4}
 use Rattle.tables.proofs.Keys.{ticket_keys, ticket_laws}
 use Rattle.tables.proofs.ByPlace.{ticket_at, numbers_at}
+use Rattle.image.specs.Layout.{image_size}
+use Rattle.image.specs.Image.{decode, kinds_ok}
+use Rattle.image_read.specs.Places.{tickets_in, lasts_in}
+use Rattle.image_find.proofs.Laws.{flattened, decoded_sized}
 use Rattle.image_places.specs.Places.{placed, number_of, Flattened, Numbered}
 use Rattle.tables.specs.Kinds.{is_live}
+use Rattle.order_programs.proofs.ThreeRules.{rule_1}
+use Rattle.order.proofs.Rules.{rules}
 
 module _ (t : Tables) (z : Sized t) (rule : t1 t ≡ true) where
   distinct_at : (a b : ℕ) → a < 4 → b < 8 → Distinct ticket_keys (tickets_of t a b)
@@ -54,3 +60,10 @@ module _ (t : Tables) (z : Sized t) (rule : t1 t ≡ true) where
         long = length-map tickets number_of ∙ flat.long;
         same = number_at tickets lasts flat;
       })
+
+-- of the tables that an image says, where the kinds are among the five and T1, T2 and T4 hold
+pub image_numbered : (image : List ℕ) → length image ≡ image_size → (kinds_ok image && (t1 (decode image) && t2 (decode image) && t4 (decode image))) ≡ true
+    → (numbers : List ℕ) → numbers ≡ map number_of (tickets_in image) → Numbered (decode image) numbers
+image_numbered image long p numbers =
+    numbered (decode image) (decoded_sized image) (rule_1 (decode image) (rules image long (decode image) p)) (tickets_in image) (lasts_in image)
+    (flattened image) numbers

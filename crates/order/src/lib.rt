@@ -19,35 +19,33 @@ pub fn image_in_order(image: &[u8]) -> bool
     let mut taken = [0u16; 256];
     let mut children = [0u16; 256];
     let mut recalls = [0u16; 256];
-    let n = order_programs::programs_ok(
+    let Some(listed) = order_programs::programs_ok(
         image,
         &mut numbers,
         &mut taken,
         &mut children,
         &mut recalls,
-    );
-    if !n.ok {
+    ) else {
         return false;
-    }
-    let a = n.taken;
-    let b = n.children;
-    let c = n.recalls;
-    if !order_children::chains_ok(image, &numbers, &children[..b]) {
+    };
+    let taken = &taken[..listed.taken];
+    let children = &children[..listed.children];
+    let recalls = &recalls[..listed.recalls];
+    if !order_children::chains_ok(image, &numbers, children) {
         return false;
     }
     let mut notes = [256u16; 256];
     let mut received = [0u16; 256];
-    let e = order_entries::entries_ok(image, &numbers, &taken[..a], &mut notes, &mut received);
-    if !e.ok {
+    let Some(lent) = order_entries::entries_ok(image, &numbers, taken, &mut notes, &mut received)
+    else {
         return false;
-    }
-    let d = e.received;
+    };
     order_recalls::recalls_ok(
         image,
         &numbers,
         &notes,
-        &children[..b],
-        &recalls[..c],
-        &received[..d],
+        children,
+        recalls,
+        &received[..lent],
     )
 }
