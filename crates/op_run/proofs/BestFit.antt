@@ -1,6 +1,6 @@
 -- The search for the run that a take uses. Past the entries that begin below s, no free run begins between the furthest of their ends and s
 -- but the one at that end; it goes on to the next sheet at which an entry begins, or to the store's end.
-use Prim.Native.Nat.{ℕ, suc, ◌+◌, ◌-◌, ◌≤◌, ◌<◌}
+use Prim.Native.Nat.{ℕ, suc, ◌+◌, ◌-◌, ◌≤◌, ◌<◌, max}
 use native.Mathlib.Omega.{arith}
 use mathlib.Core.Path.{◌≡◌, refl, sym, ap, subst, ◌∙◌}
 use mathlib.Core.Bool.{Bool, true, false, not, ◌&&◌, ◌||◌, cond}
@@ -8,7 +8,7 @@ use mathlib.Core.List.{List}
 use lib.Dec.{leb, ltb, eqb}
 use lib.ListN.{get_or}
 use borrow.Author.Count.{below_more}
-use borrow.Author.Tests.{lt-ltb, le-ltb, lt-leb, le-leb, ltb-true, ltb-false, eqb-false}
+use borrow.Author.Tests.{lt-ltb, le-ltb, ltb-true, ltb-false, eqb-false}
 use Rattle.lists.proofs.Tests.{Case, pass, fail, case, or_left, or_right, not_test}
 use Rattle.tables.specs.declared.Entry.{Entry}
 use Rattle.tables.specs.Sheets.{is_free_run}
@@ -17,29 +17,13 @@ use Rattle.best_fit.specs.BestFit.{run_at, smallest_below, best_fit}
 use Rattle.best_fit.proofs.FreeRuns.{none_within, none_taken, none_behind, run_is}
 use Rattle.best_fit.proofs.Smallest.{smallest_none, smallest_next, smallest_past}
 use Rattle.best_fit.proofs.Laws.{best_is}
-use Rattle.op_run.specs.Ends.{further, note_ends}
+use Rattle.op_run.specs.Ends.{note_ends}
 use Rattle.op_run.specs.Better.{better_of}
-use Rattle.op_run.proofs.Runs.{no_ends, further_first, further_second, reach_more, run_behind, run_clear, end_behind}
+use Rattle.op_run.proofs.Runs.{no_ends, reach_more, run_behind, run_clear, end_behind}
 
--- ---- the tests that the code makes of a run, one after the other
-module _ (found : Run) (start end count : ℕ) where
-  pub no_sheets : end ≤ start → found ≡ better_of found start end count
-  unfolding better_of
-  no_sheets h = rw (le-ltb start end h)
-
-  module _ (some : start < end) where
-    pub too_short : end - start < count → found ≡ better_of found start end count
-    unfolding better_of
-    too_short h = rw (lt-ltb start end some, lt-leb count (end - start) h)
-
-    module _ (long : count ≤ end - start) where
-      pub not_smaller : found.count ≤ end - start → found ≡ better_of found start end count
-      unfolding better_of
-      not_smaller h = rw (lt-ltb start end some, le-leb count (end - start) long, le-ltb (end - start) found.count h)
-
-      pub smaller : end - start < found.count → record { first = start; count = end - start } ≡ better_of found start end count
-      unfolding better_of
-      smaller h = rw (lt-ltb start end some, le-leb count (end - start) long, lt-ltb (end - start) found.count h)
+no_sheets : (found : Run) (start end count : ℕ) → end ≤ start → found ≡ better_of found start end count
+unfolding better_of
+no_sheets found start end count h = rw (le-ltb start end h)
 
 -- an entry that begins below s ends at start, or none does
 data Reached (ends : List ℕ) (start s : ℕ) : Type 0 where
@@ -50,13 +34,14 @@ reached_more : {ends : List ℕ} {start s : ℕ} → Reached ends start s → Re
 reached_more (none e) = none e
 reached_more (one k b e) = one k (omega arith) e
 
-reached_next : {ends : List ℕ} {start s next : ℕ} → Reached ends start s → next ≡ further start (get_or ends s 0) → Reached ends next (s + 1)
+reached_next : {ends : List ℕ} {start s next : ℕ} → Reached ends start s → next ≡ max start (get_or ends s 0) → Reached ends next (s + 1)
 reached_next {ends} {start} {s} {next} reached is = go (case (ltb start (get_or ends s 0)))
   where
     go : Case (ltb start (get_or ends s 0)) → Reached ends next (s + 1)
-    go (pass b) = one s (omega arith) (further_second start (get_or ends s 0) (ltb-true start (get_or ends s 0) b) ∙ sym is)
+    go (pass b) = one s (omega arith) (omega (arith, is, ltb-true start (get_or ends s 0) b))
     go (fail b) =
-        subst (λ (n : ℕ). Reached ends n (s + 1)) (further_first start (get_or ends s 0) (ltb-false start (get_or ends s 0) b) ∙ sym is) (reached_more reached)
+        let same : start ≡ next = omega (arith, is, ltb-false start (get_or ends s 0) b) in
+        subst (λ (n : ℕ). Reached ends n (s + 1)) same (reached_more reached)
 
 -- ---- the sheets from start up to s
 module _ (es : List Entry) {ends : List ℕ} (noted : ends ≡ note_ends es no_ends) {count : ℕ} (some : 1 ≤ count)
@@ -97,7 +82,7 @@ module _ (es : List Entry) {ends : List ℕ} (noted : ends ≡ note_ends es no_e
         ∙ rw (lt-ltb start s below)
 
   -- an entry begins at s; next is the furthest end with it
-  module _ (low : s < 256) {next : ℕ} (begun : get_or ends s 0 ≡ 0 → ⊥) (is : next ≡ further start (get_or ends s 0)) where
+  module _ (low : s < 256) {next : ℕ} (begun : get_or ends s 0 ≡ 0 → ⊥) (is : next ≡ max start (get_or ends s 0)) where
     taken : (m : ℕ) → s ≤ m → m < get_or ends s 0 → run_at free m ≡ 0
     taken m a b = none_taken free m (run_behind es noted 1 m s (omega arith) b)
 
@@ -110,19 +95,19 @@ module _ (es : List Entry) {ends : List ℕ} (noted : ends ≡ note_ends es no_e
         go : Case (ltb start s) → Case (ltb start (get_or ends s 0)) → smallest_below free count next ≡ better_of (smallest_below free count start) start s count
         go (pass a) b =
             let below : start < s = ltb-true start s a in
-            let e : next ≡ get_or ends s 0 = is ∙ sym (further_second start (get_or ends s 0) (omega (arith, behind))) in
+            let e : next ≡ get_or ends s 0 = omega (arith, is, behind) in
             let t : next ≡ (get_or ends s 0 - s) + s = omega (arith, e, behind) in
             ap (smallest_below free count) t
             ∙ smallest_past free count some s (get_or ends s 0 - s) (λ m c d. taken m c (omega (arith, behind)))
             ∙ closed_run below (run_behind es noted (suc (s - start)) start s (omega arith) (omega (arith, behind)))
         go (fail a) (fail b) =
             let c : s ≤ start = ltb-false start s a in
-            ap (smallest_below free count) (is ∙ sym (further_first start (get_or ends s 0) (ltb-false start (get_or ends s 0) b)))
+            ap (smallest_below free count) (omega (arith, is, ltb-false start (get_or ends s 0) b))
             ∙ no_sheets (smallest_below free count start) start s count c
         go (fail a) (pass b) =
             let c : s ≤ start = ltb-false start s a in
             let d : start < get_or ends s 0 = ltb-true start (get_or ends s 0) b in
-            let e : next ≡ get_or ends s 0 = is ∙ sym (further_second start (get_or ends s 0) d) in
+            let e : next ≡ get_or ends s 0 = omega (arith, is) in
             let t : next ≡ (get_or ends s 0 - start) + start = omega (arith, e) in
             ap (smallest_below free count) t
             ∙ smallest_past free count some start (get_or ends s 0 - start) (λ m f g. taken m (omega arith) (omega arith))
@@ -146,7 +131,6 @@ module _ (es : List Entry) {ends : List ℕ} (noted : ends ≡ note_ends es no_e
 
 -- ---- where the search stands: the sheets below s have been seen
 pub record Sought (count : ℕ) (ends : List ℕ) (found : Run) (start s : ℕ) : Type 0 where
-  pub within : s ≤ 256
   pub past : (k : ℕ) → k < s → get_or ends k 0 ≤ start
   reached : Reached ends start s
   pub smallest : (es : List Entry) → ends ≡ note_ends es no_ends → found ≡ smallest_below (is_free_run es) count start
@@ -154,7 +138,6 @@ pub record Sought (count : ℕ) (ends : List ℕ) (found : Run) (start s : ℕ) 
 module _ {count : ℕ} {ends : List ℕ} where
   pub sought_none : Sought count ends (record { first = 256; count = 257 }) 0 0
   sought_none = record {
-    within = omega arith;
     past = λ k b. absurd (omega arith);
     reached = none refl;
     smallest = λ es q. sym (smallest_none (is_free_run es) count);
@@ -163,27 +146,25 @@ module _ {count : ℕ} {ends : List ℕ} where
   module _ {found : Run} {start s : ℕ} (so_far : Sought count ends found start s) where
     pub sought_on : s < 256 → get_or ends s 0 ≡ 0 → Sought count ends found start (s + 1)
     sought_on low e = record {
-      within = omega arith;
       past = below_more _ s so_far.past (omega (arith, e));
       reached = reached_more so_far.reached;
       smallest = so_far.smallest;
     }
 
     pub sought_more : 1 ≤ count → s < 256 → (get_or ends s 0 ≡ 0 → ⊥) → {after : Run} → after ≡ better_of found start s count
-        → {next : ℕ} → next ≡ further start (get_or ends s 0) → Sought count ends after next (s + 1)
+        → {next : ℕ} → next ≡ max start (get_or ends s 0) → Sought count ends after next (s + 1)
     sought_more some low begun {after} better {next} is = record {
-      within = omega arith;
       past = reach_more ends so_far.past is;
       reached = reached_next so_far.reached is;
       smallest = λ es q.
           better ∙ ap (λ (r : Run). better_of r start s count) (so_far.smallest es q)
-          ∙ sym (next_run es q some so_far.within so_far.past so_far.reached low begun is);
+          ∙ sym (next_run es q some (omega arith) so_far.past so_far.reached low begun is);
     }
 
     -- at none of the sheets that are left an entry begins
-    pub sought_end : ((k : ℕ) → s ≤ k → get_or ends k 0 ≡ 0) → 1 ≤ count → {best : Run} → best ≡ better_of found start 256 count
+    pub sought_end : s ≤ 256 → ((k : ℕ) → s ≤ k → get_or ends k 0 ≡ 0) → 1 ≤ count → {best : Run} → best ≡ better_of found start 256 count
         → (es : List Entry) → ends ≡ note_ends es no_ends → best.first ≡ best_fit es count
-    sought_end rest some better es q =
+    sought_end within rest some better es q =
         ap (λ (r : Run). r.first)
         (better ∙ ap (λ (r : Run). better_of r start 256 count) (so_far.smallest es q)
         ∙ sym (last_run es q some (omega arith) past (reached so_far.reached) refl))
@@ -198,4 +179,4 @@ module _ {count : ℕ} {ends : List ℕ} where
 
         reached : Reached ends start s → Reached ends start 256
         reached (none e) = none e
-        reached (one k b e) = one k (omega (arith, so_far.within)) e
+        reached (one k b e) = one k (omega (arith, within)) e

@@ -1,6 +1,6 @@
 -- The ends of the entries noted by the sheets where they begin. A run that begins at a is free where each entry ends at or below a or begins
 -- past the run.
-use Prim.Native.Nat.{ℕ, zero, suc, ◌+◌, ◌-◌, ◌≤◌, ◌<◌}
+use Prim.Native.Nat.{ℕ, zero, suc, ◌+◌, ◌-◌, ◌≤◌, ◌<◌, max}
 use native.Mathlib.Omega.{arith}
 use native.Mathlib.Numerals.{add-one}
 use mathlib.Core.Path.{◌≡◌, refl, sym, ap, ◌∙◌, subst}
@@ -19,62 +19,28 @@ use Rattle.tables.specs.declared.Entry.{Entry}
 use Rattle.tables.specs.Names.{no_entry}
 use Rattle.tables.specs.Sheets.{apart, outside, is_free_run}
 use Rattle.tables.proofs.ByPlace.{at}
-use Rattle.op_run.specs.Ends.{further, note_end, note_ends, begins_below, begin_below, NotesEnd, NotesEnds}
+use Rattle.op_run.specs.Ends.{note_end, note_ends, begins_below, begin_below, NotesEnd, NotesEnds}
 
 abbrev end : Entry → ℕ
 end e = e.first + e.count
 
 -- ---- the further of two
-module _ (a b : ℕ) where
-  pub further_second : a < b → b ≡ further a b
-  unfolding further
-  further_second h = rw (lt-ltb a b h)
-
-  pub further_first : b ≤ a → a ≡ further a b
-  unfolding further
-  further_first h = rw (le-ltb a b h)
-
-  further_left : a ≤ further a b
-  unfolding further
-  further_left = go (case (ltb a b))
-    where
-      go : Case (ltb a b) → a ≤ cond (ltb a b) b a
-      go (pass e) = let h : a < b = ltb-true a b e in rw e (omega arith)
-      go (fail e) = rw e (omega arith)
-
-  further_right : b ≤ further a b
-  unfolding further
-  further_right = go (case (ltb a b))
-    where
-      go : Case (ltb a b) → b ≤ cond (ltb a b) b a
-      go (pass e) = rw e (omega arith)
-      go (fail e) = rw e (ltb-false a b e)
-
-  further_most : (c : ℕ) → a ≤ c → b ≤ c → further a b ≤ c
-  unfolding further
-  further_most c p q = go (case (ltb a b))
-    where
-      go : Case (ltb a b) → cond (ltb a b) b a ≤ c
-      go (pass e) = rw e q
-      go (fail e) = rw e p
-
-  pub further_from : (c : ℕ) → c < further a b → (c < a) ⊎ (c < b)
-  unfolding further
-  further_from c h = go (case (ltb a b))
-    where
-      go : Case (ltb a b) → (c < a) ⊎ (c < b)
-      go (pass e) = inr (rw e at h)
-      go (fail e) = inl (rw e at h)
+pub further_from : (a b c : ℕ) → c < max a b → (c < a) ⊎ (c < b)
+further_from a b c h = go (case (ltb c a))
+  where
+    go : Case (ltb c a) → (c < a) ⊎ (c < b)
+    go (pass e) = inl (ltb-true c a e)
+    go (fail e) = let low : a ≤ c = ltb-false c a e in inr (omega arith)
 
 -- reach with the end noted at s taken in: no end noted up to there is past it
-pub reach_more : (ends : List ℕ) {reach s next : ℕ} → ((k : ℕ) → k < s → get_or ends k 0 ≤ reach) → next ≡ further reach (get_or ends s 0)
+pub reach_more : (ends : List ℕ) {reach s next : ℕ} → ((k : ℕ) → k < s → get_or ends k 0 ≤ reach) → next ≡ max reach (get_or ends s 0)
     → (k : ℕ) → k < s + 1 → get_or ends k 0 ≤ next
 reach_more ends {reach} {s} {next} before is =
-    below_more _ s (λ k c. omega (arith, before k c, is, further_left reach (get_or ends s 0))) (rw is (further_right reach (get_or ends s 0)))
+    below_more _ s (λ k c. omega (arith, before k c, is)) (omega (arith, is))
 
 -- ---- one entry noted
 module _ (e : Entry) (l : List ℕ) where
-  noted : e.live ≡ true → e.first < 256 → note_end e l ≡ set l e.first (further (get_or l e.first 0) (end e))
+  noted : e.live ≡ true → e.first < 256 → note_end e l ≡ set l e.first (max (get_or l e.first 0) (end e))
   unfolding note_end
   noted v b = rw (lt-ltb e.first 256 b, v)
 
@@ -87,7 +53,7 @@ module _ (e : Entry) (l : List ℕ) where
   noted_high v b = rw (le-ltb e.first 256 b, v)
 
   data Noted : Type 0 where
-    here : e.live ≡ true → e.first < 256 → note_end e l ≡ set l e.first (further (get_or l e.first 0) (end e)) → Noted
+    here : e.live ≡ true → e.first < 256 → note_end e l ≡ set l e.first (max (get_or l e.first 0) (end e)) → Noted
     not_here : note_end e l ≡ l → Noted
 
   how : Noted
@@ -102,22 +68,22 @@ module _ (e : Entry) (l : List ℕ) where
   one_long = go how
     where
       go : Noted → length (note_end e l) ≡ length l
-      go (here v b q) = ap length q ∙ length-set l e.first (further (get_or l e.first 0) (end e))
+      go (here v b q) = ap length q ∙ length-set l e.first (max (get_or l e.first 0) (end e))
       go (not_here q) = ap length q
 
   module _ (long : length l ≡ 256) where
-    one_here : e.live ≡ true → e.first < 256 → get_or (note_end e l) e.first 0 ≡ further (get_or l e.first 0) (end e)
+    one_here : e.live ≡ true → e.first < 256 → get_or (note_end e l) e.first 0 ≡ max (get_or l e.first 0) (end e)
     one_here v b =
         ap (λ (m : List ℕ). get_or m e.first 0) (noted v b)
-        ∙ get_or-set_same l e.first (further (get_or l e.first 0) (end e)) 0 (omega arith)
+        ∙ get_or-set_same l e.first (max (get_or l e.first 0) (end e)) 0 (omega arith)
 
     one_upper : e.live ≡ true → e.first < 256 → end e ≤ get_or (note_end e l) e.first 0
-    one_upper v b = rw (one_here v b) (further_right (get_or l e.first 0) (end e))
+    one_upper v b = omega (arith, one_here v b)
 
     -- what stands at k is what stood there, or the entry's end
     data Stands (k : ℕ) : Type 0 where
       old : get_or (note_end e l) k 0 ≡ get_or l k 0 → Stands k
-      new : e.live ≡ true → e.first < 256 → e.first ≡ k → get_or (note_end e l) k 0 ≡ further (get_or l k 0) (end e) → Stands k
+      new : e.live ≡ true → e.first < 256 → e.first ≡ k → get_or (note_end e l) k 0 ≡ max (get_or l k 0) (end e) → Stands k
 
     stands : (k : ℕ) → Stands k
     stands k = go how (case (eqb k e.first))
@@ -127,17 +93,17 @@ module _ (e : Entry) (l : List ℕ) where
         go (here v b q) (fail ne) =
             old
             (ap (λ (m : List ℕ). get_or m k 0) q
-            ∙ get_or-set_other l e.first k (further (get_or l e.first 0) (end e)) 0 (eqb-false k e.first ne))
+            ∙ get_or-set_other l e.first k (max (get_or l e.first 0) (end e)) 0 (eqb-false k e.first ne))
         go (here v b q) (pass z) =
             let w : e.first ≡ k = sym (eqb-true k e.first z) in
-            new v b w (subst (λ (j : ℕ). get_or (note_end e l) j 0 ≡ further (get_or l j 0) (end e)) w (one_here v b))
+            new v b w (subst (λ (j : ℕ). get_or (note_end e l) j 0 ≡ max (get_or l j 0) (end e)) w (one_here v b))
 
     one_keeps : (k : ℕ) → get_or l k 0 ≤ get_or (note_end e l) k 0
     one_keeps k = go (stands k)
       where
         go : Stands k → get_or l k 0 ≤ get_or (note_end e l) k 0
         go (old q) = omega (arith, q)
-        go (new v b w q) = rw q (further_left (get_or l k 0) (end e))
+        go (new v b w q) = omega (arith, q)
 
     one_from : (k a : ℕ) → a < get_or (note_end e l) k 0 → (a < get_or l k 0) ⊎ ((e.live ≡ true) × (e.first ≡ k) × (a < end e))
     one_from k a h = go (stands k)
@@ -160,7 +126,7 @@ module _ (e : Entry) (bound : ℕ) where
   unfolding begins_below
   bound_high v b = rw (le-ltb e.first 256 b, v)
 
-  bound_noted : e.live ≡ true → e.first < 256 → begins_below e bound ≡ further bound (e.first + 1)
+  bound_noted : e.live ≡ true → e.first < 256 → begins_below e bound ≡ max bound (e.first + 1)
   unfolding begins_below
   bound_noted v b = rw (lt-ltb e.first 256 b, v)
 
@@ -168,29 +134,17 @@ module _ (e : Entry) (bound : ℕ) where
   unfolding begins_below
   bound_kept = go (case (e.live && ltb e.first 256))
     where
-      go : Case (e.live && ltb e.first 256) → bound ≤ cond (e.live && ltb e.first 256) (further bound (e.first + 1)) bound
-      go (pass q) = rw q (further_left bound (e.first + 1))
+      go : Case (e.live && ltb e.first 256) → bound ≤ cond (e.live && ltb e.first 256) (max bound (e.first + 1)) bound
+      go (pass q) = rw q (omega arith)
       go (fail q) = rw q (omega arith)
 
   bound_most : bound ≤ 256 → begins_below e bound ≤ 256
   unfolding begins_below
   bound_most most = go (case (e.live && ltb e.first 256))
     where
-      go : Case (e.live && ltb e.first 256) → cond (e.live && ltb e.first 256) (further bound (e.first + 1)) bound ≤ 256
-      go (pass q) = rw q (further_most bound (e.first + 1) 256 most (omega (arith, ltb-true e.first 256 (and_r e.live _ q))))
+      go : Case (e.live && ltb e.first 256) → cond (e.live && ltb e.first 256) (max bound (e.first + 1)) bound ≤ 256
+      go (pass q) = rw q (omega (arith, ltb-true e.first 256 (and_r e.live _ q)))
       go (fail q) = rw q most
-
--- ---- what the code notes of an entry
-module _ (e : Entry) {l : List ℕ} {bound : ℕ} where
-  pub notes_dead : e.live ≡ false → NotesEnd e l l bound bound
-  notes_dead v = record { ends = noted_dead e l v; bound = bound_dead e bound v }
-
-  pub notes_high : e.live ≡ true → 256 ≤ e.first → NotesEnd e l l bound bound
-  notes_high v b = record { ends = noted_high e l v b; bound = bound_high e bound v b }
-
-  pub notes : e.live ≡ true → e.first < 256 → {far : ℕ} → far ≡ further (get_or l e.first 0) (end e) → {next : ℕ} → next ≡ further bound (e.first + 1)
-      → NotesEnd e l (set l e.first far) bound next
-  notes v b f n = record { ends = ap (set l e.first) f ∙ sym (noted e l v b); bound = n ∙ sym (bound_noted e bound v b) }
 
 -- ---- all entries noted
 -- an entry that begins at k and ends past a
@@ -245,23 +199,21 @@ untouched (e ∷ es) l n bound k h = untouched es (note_end e l) (one_long e l �
     go : Stands e l n k → get_or (note_end e l) k 0 ≡ get_or l k 0
     go (old q) = q
     go (new v b w q) =
-        absurd (omega (arith, w, h, begin_kept es (begins_below e bound), bound_noted e bound v b, further_right bound (e.first + 1)))
+        absurd (omega (arith, w, h, begin_kept es (begins_below e bound), bound_noted e bound v b))
 
 -- the loop that notes them: from place i on, what is left to note
 pub record Noting (es : List Entry) (before now : List ℕ) (below i : ℕ) : Type 0 where
-  pub within : i ≤ 256
   pub ends : note_ends (drop i es) now ≡ note_ends es before
   pub bound : begin_below (drop i es) below ≡ begin_below es 0
 
 module _ (es : List Entry) (long : length es ≡ 256) {before : List ℕ} where
   pub noting_none : Noting es before before 0 0
-  noting_none = record { within = omega arith; ends = refl; bound = refl }
+  noting_none = record { ends = refl; bound = refl }
 
   module _ {now : List ℕ} {bound i : ℕ} (so_far : Noting es before now bound i) where
     pub noting_more : i < 256 → {e : Entry} → e ≡ at es i → {after : List ℕ} {next : ℕ} → NotesEnd e now after bound next → Noting es before after next (i + 1)
     unfolding note_ends begin_below
     noting_more low {e} is {after} {next} one = record {
-      within = omega arith;
       ends =
           ap (note_ends (drop (i + 1) es)) (one.ends ∙ ap (λ (x : Entry). note_end x now) is)
           ∙ sym (ap (λ (l : List Entry). note_ends l now) here) ∙ so_far.ends;

@@ -1,16 +1,12 @@
 -- Where entries end, kept by the sheets where they begin, and below which sheet all begin: what is noted before the sheets are gone over.
-use Rattle.std.specs.Prelude.{ℕ, ◌+◌, ◌≡◌, ◌&&◌, cond, List, [], ◌∷◌, ltb, get_or, set}
+use Rattle.std.specs.Prelude.{ℕ, ◌+◌, ◌≡◌, ◌&&◌, max, cond, List, [], ◌∷◌, ltb, get_or, set}
 use Rattle.tables.specs.declared.Entry.{Entry}
-
--- the larger of two
-unfoldable pub further : ℕ → ℕ → ℕ
-further a b = cond (ltb a b) b a
 
 -- the end of a live entry noted at its first sheet, unless one that is further stands there
 unfoldable pub note_end : Entry → List ℕ → List ℕ
 note_end e ends =
     cond (e.live && ltb e.first 256)
-    (set ends e.first (further (get_or ends e.first 0) (e.first + e.count)))
+    (set ends e.first (max (get_or ends e.first 0) (e.first + e.count)))
     ends
 
 -- the ends of all entries, one after the other
@@ -20,7 +16,7 @@ note_ends (e ∷ entries) ends = note_ends entries (note_end e ends)
 
 -- the sheet behind the first one of a live entry, unless `bound` is further
 unfoldable pub begins_below : Entry → ℕ → ℕ
-begins_below e bound = cond (e.live && ltb e.first 256) (further bound (e.first + 1)) bound
+begins_below e bound = cond (e.live && ltb e.first 256) (max bound (e.first + 1)) bound
 
 -- the sheet below which all entries begin
 unfoldable pub begin_below : List Entry → ℕ → ℕ

@@ -7,37 +7,24 @@ ghost use Rattle.tables.specs.Sheets.{sheets_free};
 ghost use Rattle.best_fit.specs.BestFit.{best_fit};
 ghost use Rattle.image.specs.Layout.{image_size};
 ghost use Rattle.image_read.specs.Places.{entries_in};
-ghost use Rattle.op_run.specs.Ends.{further, NotesEnd, NotesEnds};
+ghost use Rattle.op_run.specs.Ends.{NotesEnd, NotesEnds};
 ghost use Rattle.op_run.specs.Better.{better_of};
 
 use best_fit::Run;
 use tables::Entry;
 
-fn furthest(a: u32, b: u32) -> u32
-    ensures { result ≡ further a b }
-{
-    if a < b {
-        return b;
-    }
-    a
-}
-
 // Where the entry ends is kept at the sheet where it begins, unless another that begins there ends further. It begins below the bound that is
 // handed back.
+#[tactic(auto, unfolding(crate::specs::Ends::note_end, crate::specs::Ends::begins_below))]
 fn note_end(ends: &mut [u32; 256], e: Entry, bound: u32) -> u32
     ensures { NotesEnd e ends.old ends.new bound result }
 {
-    if !e.live {
+    let first = usize::from(e.first);
+    if !e.live || 256 <= first {
         return bound;
     }
-    let first = e.first as usize;
-    if 256 <= first {
-        return bound;
-    }
-    let end = e.first as u32 + e.count as u32;
-    let old = ends[first];
-    ends[first] = furthest(old, end);
-    furthest(bound, first as u32 + 1)
+    ends[first] = ends[first].max(u32::from(e.first) + u32::from(e.count));
+    bound.max(u32::from(e.first) + 1)
 }
 
 // Of all entries; the bound below which they begin.
@@ -45,33 +32,25 @@ fn note_ends(ends: &mut [u32; 256], image: &[u8]) -> u32
     requires { length image.now ≡ image_size }
     ensures { NotesEnds (entries_in image.now) ends.old ends.new result }
 {
-    let mut bound: u32 = 0;
-    let mut i: usize = 0;
-    while i < 256 {
-        let e = image_read::entry_at(image, i);
-        i = i + 1;
-        bound = note_end(ends, e, bound);
+    let mut bound = 0;
+    for i in 0..256 {
+        bound = note_end(ends, image_read::entry_at(image, i), bound);
     }
     bound
 }
 
 // The run that is found, or the one from start up to end where that suits better: it is long enough, and smaller.
+#[tactic(auto, unfolding(crate::specs::Better::better_of))]
 fn better(found: Run, start: u32, end: u32, count: u32) -> Run
     ensures { result ≡ better_of found start end count }
 {
-    if end <= start {
-        return found;
-    }
-    let sheets = end - start;
-    if sheets < count {
-        return found;
-    }
-    if found.count <= sheets {
-        return found;
-    }
-    Run {
-        first: start,
-        count: sheets,
+    if start < end && count <= end - start && end - start < found.count {
+        Run {
+            first: start,
+            count: end - start,
+        }
+    } else {
+        found
     }
 }
 
@@ -88,14 +67,10 @@ pub fn best_fit(image: &[u8], count: usize) -> usize
         count: 257,
     };
     let mut start: u32 = 0;
-    let mut s: usize = 0;
-    while s < bound {
-        let end = ends[s];
-        let sheet = s as u32;
-        s = s + 1;
+    for (s, &end) in ends[..bound].iter().enumerate() {
         if end != 0 {
-            found = better(found, start, sheet, count as u32);
-            start = furthest(start, end);
+            found = better(found, start, s as u32, count as u32);
+            start = start.max(end);
         }
     }
     let best = better(found, start, 256, count as u32);
@@ -112,14 +87,10 @@ pub fn free_sheets(image: &[u8]) -> u16
     note_ends(&mut ends, image);
     let mut reach: u32 = 0;
     let mut free: u16 = 0;
-    let mut s: usize = 0;
-    while s < 256 {
-        let end = ends[s];
-        let sheet = s;
-        s = s + 1;
-        reach = furthest(reach, end);
-        if reach as usize <= sheet {
-            free = free + 1;
+    for (s, &end) in ends.iter().enumerate() {
+        reach = reach.max(end);
+        if reach as usize <= s {
+            free += 1;
         }
     }
     free

@@ -10,7 +10,7 @@ loop-i-init c = let bytes = c.args.image.now in noting_none (entries_in bytes) (
 pub loop-i-preserved : goal.loop-i-preserved
 loop-i-preserved c =
     let bytes = c.args.image.now in
-    noting_more (entries_in bytes) (entries_long bytes) c.loop-i.invariant c.loop-i-test.true c.entry_at-e.ensures
+    noting_more (entries_in bytes) (entries_long bytes) c.loop-i.invariant c.loop-i-test.true c.entry_at.ensures
     c.note_end-bound.ensures
 
 pub returns : goal.returns
