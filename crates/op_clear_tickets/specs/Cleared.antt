@@ -1,5 +1,5 @@
 -- Tickets of an image cleared by places: what goes is the free record then, all else is as it was.
-use Rattle.std.specs.Prelude.{ℕ, ◌+◌, ◌<◌, ◌≡◌, Bool, true, ◌&&◌, cond, List, eqb, leb, ltb, get_or}
+use Rattle.std.specs.Prelude.{ℕ, ◌+◌, ◌<◌, ◌≡◌, Bool, true, false, ◌&&◌, cond, List, leb, ltb, get_or}
 use Rattle.tables.specs.declared.Ticket.{Ticket}
 use Rattle.tables.specs.Kinds.{is_live}
 use Rattle.tables.specs.Names.{free}
@@ -7,8 +7,8 @@ use Rattle.image.specs.Image.{is_image}
 use Rattle.image_read.specs.Places.{tickets_in, lasts_in, entries_in}
 
 -- the live ticket k is marked, i places from the first
-abbrev pub is_marked : List ℕ → ℕ → Ticket → Bool
-is_marked marks i k = is_live k.kind && eqb (get_or marks i 0) 1
+abbrev pub is_marked : List Bool → ℕ → Ticket → Bool
+is_marked marks i k = is_live k.kind && get_or marks i false
 
 -- one of the places from `start` on, `size` of them
 abbrev pub among : ℕ → ℕ → ℕ → Bool

@@ -11,25 +11,17 @@ ghost use Rattle.op_drop_entries.specs.Links.{directly_below, LinkedEntries};
 
 use tables::{Entry, Name};
 
-// Is it a live entry whose parent is the entry n?
+// Is it a live entry whose parent is the entry n? The number is asked first: it tells most entries apart.
+#[tactic(auto, unfolding(crate::specs::Links::directly_below, tables::specs::Names::eq_name))]
 fn is_below(e: Entry, n: Name) -> bool
     ensures { result ≡ directly_below n e }
 {
-    let parent = e.parent;
-    if parent.number != n.number {
-        return false;
-    }
-    if parent.number == 0 {
-        return false;
-    }
-    if !e.live {
-        return false;
-    }
-    parent.is(n)
+    e.parent.number == n.number && e.parent.number != 0 && e.live && e.parent == n
 }
 
 // The entry x goes, and all below it. The queue holds the names of those that are gone; at each in turn those directly below it go too, so
 // that removal costs what it removes.
+#[tactic(auto, using(image::proofs::RoundTrip::image_whole))]
 pub fn drop_below(image: &mut [u8], x: Name)
     requires { (is_image image.old ≡ true) × LinkedEntries (decode image.old).entries }
     ensures { Holds image.new (drop_entries (at_or_below (decode image.old) x) (decode image.old)) }
@@ -41,22 +33,18 @@ pub fn drop_below(image: &mut [u8], x: Name)
     let none = Entry::none();
     image_write::put_entry(image, at, none);
     let mut queue = [x; 256];
-    let mut tail: usize = 1;
-    let mut head: usize = 0;
+    let mut tail = 1;
+    let mut head = 0;
     while head < tail {
         let n = queue[head];
-        let mut i: usize = 0;
-        while i < 256 {
-            let j = i;
-            i = i + 1;
-            let e = image_read::entry_at(image, j);
+        for i in 0..256 {
+            let e = image_read::entry_at(image, i);
             if is_below(e, n) {
-                image_write::put_entry(image, j, none);
-                let name = e.name;
-                queue[tail] = name;
-                tail = tail + 1;
+                image_write::put_entry(image, i, none);
+                queue[tail] = e.name;
+                tail += 1;
             }
         }
-        head = head + 1;
+        head += 1;
     }
 }

@@ -4,7 +4,6 @@ use native.Mathlib.Omega.{arith}
 use mathlib.Core.Path.{◌≡◌, refl, sym, ap, subst, ◌∙◌}
 use mathlib.Core.Bool.{Bool, true, false, ◌&&◌, ◌||◌}
 use mathlib.Core.List.{List}
-use lib.Dec.{eqb}
 use lib.ListN.{length, get_or}
 use borrow.Author.Tests.{eq-eqb, ne_eqb, leb-true, le-leb, ltb-true, lt-ltb}
 use Rattle.lists.proofs.Tests.{contradiction, and_intro}
@@ -24,7 +23,7 @@ use Rattle.image_write.specs.Shows.{Holds}
 use Rattle.image_pads.specs.Places.{on_pad}
 use Rattle.image_pads.proofs.Rows.{on_pad_lem}
 use Rattle.op_clear_tickets.specs.Cleared.{is_marked, among, Cleared}
-use Rattle.op_drop_tickets.specs.Marks.{also_under, goes, under_on, mark_of, marks_of}
+use Rattle.op_drop_tickets.specs.Marks.{also_under, goes, under_on, marks_of}
 use Rattle.op_drop_tickets.specs.Docked.{docked_with, docked_to, docked_on, Heads}
 use Rattle.op_drop_tickets.specs.Linked.{Linked}
 use Rattle.op_clear_tickets.proofs.Laws.{is_among, holds_dropped}
@@ -38,13 +37,9 @@ picks true false m n here elsewhere = refl
 picks false true m n here elsewhere = sym (elsewhere refl refl)
 picks false false m n here elsewhere = refl
 
-is_mark : (b : Bool) → eqb (mark_of b) 1 ≡ b
-is_mark true = refl
-is_mark false = refl
-
-pub mark_at : (test : ℕ → Bool) (i : ℕ) → i < 64 → eqb (get_or (marks_of test) i 0) 1 ≡ test i
+pub mark_at : (test : ℕ → Bool) (i : ℕ) → i < 64 → get_or (marks_of test) i false ≡ test i
 unfolding marks_of
-mark_at test i h = ap (λ (m : ℕ). eqb m 1) (get_or_tabulate 64 (λ j. mark_of (test j)) i 0 h) ∙ is_mark (test i)
+mark_at test i h = get_or_tabulate 64 test i false h
 
 -- the test by places agrees with the names on the pad's live tickets
 abbrev pub Agrees : Tables → ℕ → (ℕ → Bool) → (Name → Bool) → Type 0
@@ -55,7 +50,7 @@ Agrees t a test names =
 abbrev pub Spares : Tables → ℕ → (Name → Bool) → Type 0
 Spares t a names = (n : Name) → (n.pad ≡ a → ⊥) → is_live (lookup t n).kind ≡ true → names n ≡ false
 
-module _ (before after marks : List ℕ) (a : ℕ) (c : Cleared (64 * a) 64 (λ p. is_marked marks (p - 64 * a)) before after) where
+module _ (before after : List ℕ) (marks : List Bool) (a : ℕ) (c : Cleared (64 * a) 64 (λ p. is_marked marks (p - 64 * a)) before after) where
   abbrev t : Tables
   t = decode before
 
@@ -64,11 +59,11 @@ module _ (before after marks : List ℕ) (a : ℕ) (c : Cleared (64 * a) 64 (λ 
 
   module _ (test : ℕ → Bool) (e : marks ≡ marks_of test) (names : Name → Bool) (agrees : Agrees t a test names) (spares : Spares t a names) where
     module _ (p : ℕ) (h : p < 256) (l : is_live (placed t p).kind ≡ true) where
-      on_the_pad : p / 64 ≡ a → eqb (get_or marks (p - 64 * a) 0) 1 ≡ names (name_at p (placed t p))
+      on_the_pad : p / 64 ≡ a → get_or marks (p - 64 * a) false ≡ names (name_at p (placed t p))
       on_the_pad q =
           let b : ℕ = p / 8 % 8 in
           let j : p - 64 * a ≡ 8 * b + p % 8 = omega (arith, q) in
-          ap (λ (m : List ℕ). eqb (get_or m (p - 64 * a) 0) 1) e ∙ mark_at test (p - 64 * a) (omega (arith, q)) ∙ ap test j
+          ap (λ (m : List Bool). get_or m (p - 64 * a) false) e ∙ mark_at test (p - 64 * a) (omega (arith, q)) ∙ ap test j
           ∙ subst (λ (m : ℕ). is_live (ticket_at t m b (p % 8)).kind ≡ true → test (8 * b + p % 8) ≡ names (name_of m b (ticket_at t m b (p % 8)).number)) (sym q)
           (agrees b (p % 8) (omega arith) (omega arith)) l
 
@@ -80,7 +75,7 @@ module _ (before after marks : List ℕ) (a : ℕ) (c : Cleared (64 * a) 64 (λ 
     by_marks : (p : ℕ) → p < 256
         → (among (64 * a) 64 p && is_marked marks (p - 64 * a) (placed t p)) ≡ (is_live (placed t p).kind && names (name_at p (placed t p)))
     by_marks p h =
-        picks (among (64 * a) 64 p) (is_live (placed t p).kind) (eqb (get_or marks (p - 64 * a) 0) 1) (names (name_at p (placed t p)))
+        picks (among (64 * a) 64 p) (is_live (placed t p).kind) (get_or marks (p - 64 * a) false) (names (name_at p (placed t p)))
         (λ l w.
         let i = is_among (64 * a) 64 p w in
         on_the_pad p h l (omega (arith, leb-true (64 * a) p i.low, ltb-true p (64 * a + 64) i.high)))
@@ -127,7 +122,7 @@ module _ (t : Tables) (z : Sized t) (link : Linked t) (also x : Name) (low : x.p
       let h : Away t z link x.pad low n = record { pad = ne; live = l } in
       λ j. name_missed t z link x.pad low also beside n h j || far t z link x.pad low 64 n h x (name_missed t z link x.pad low x refl) j
 
-pub under_removed : (before after marks : List ℕ) → Linked (decode before) → (also x : Name) → x.pad < 4 → also.pad ≡ x.pad
+pub under_removed : (before after : List ℕ) (marks : List Bool) → Linked (decode before) → (also x : Name) → x.pad < 4 → also.pad ≡ x.pad
     → marks ≡ marks_of (under_on (decode before) also x) → (pad : ℕ) → pad ≡ x.pad
     → Cleared (64 * pad) 64 (λ p. is_marked marks (p - 64 * pad)) before after
     → Holds after (drop_tickets (also_under (decode before) also x) (decode before))
@@ -154,7 +149,7 @@ module _ (t : Tables) (z : Sized t) (link : Linked t) (heads : Heads t) (h : Nam
   head_spares : Spares t h.pad (at_or_under t h)
   head_spares n ne l = heads.under h n is l ∙ ap (λ (v : Bool). v && docked_to t h n) (ne_eqb n.pad h.pad ne)
 
-pub head_removed : (before after marks : List ℕ) → Linked (decode before) → Heads (decode before) → (h : Name) → is_head (lookup (decode before) h).kind ≡ true
+pub head_removed : (before after : List ℕ) (marks : List Bool) → Linked (decode before) → Heads (decode before) → (h : Name) → is_head (lookup (decode before) h).kind ≡ true
     → marks ≡ marks_of (docked_on (decode before) h) → (pad : ℕ) → pad ≡ h.pad
     → Cleared (64 * pad) 64 (λ p. is_marked marks (p - 64 * pad)) before after
     → Holds after (drop_tickets (at_or_under (decode before) h) (decode before))

@@ -1,5 +1,5 @@
 -- What goes, by names and by the places of a pad: the chains of parents are walked from place to place, and what goes is marked.
-use Rattle.std.specs.Prelude.{ℕ, Bool, ◌||◌, cond, List, eqb}
+use Rattle.std.specs.Prelude.{ℕ, Bool, ◌||◌, List, eqb}
 use Rattle.lists.specs.Parts.{tabulate}
 use Rattle.image_places.specs.Walk.{leads_to}
 use Rattle.tables.specs.declared.{Name.Name, Tables.Tables}
@@ -21,9 +21,6 @@ under_on t also x i =
     let numbers = numbers_of t x.pad in
     goes (ups_of t x.pad numbers) (place_in numbers also.program also.number) (place_in numbers x.program x.number) i
 
-abbrev pub mark_of : Bool → ℕ
-mark_of b = cond b 1 0
-
--- a pad's 64 places, 1 where the test picks one
-unfoldable pub marks_of : (ℕ → Bool) → List ℕ
-marks_of test = tabulate 64 (λ i. mark_of (test i))
+-- a pad's 64 places, marked where the test picks one
+unfoldable pub marks_of : (ℕ → Bool) → List Bool
+marks_of test = tabulate 64 test

@@ -5,7 +5,7 @@ use native.Mathlib.Omega.{arith}
 use native.Mathlib.Nat.{eq-or-lt_of_le, le_of_suc-le-suc}
 use mathlib.Core.Path.{◌≡◌, refl, sym, ap, ◌∙◌, subst, fun_ext}
 use mathlib.Core.Logic.{◌⊎◌, inl, inr}
-use mathlib.Core.Bool.{Bool, true, not, ◌&&◌, ◌||◌}
+use mathlib.Core.Bool.{Bool, true, false, not, ◌&&◌, ◌||◌}
 use mathlib.Core.List.{List}
 use lib.Dec.{eqb}
 use lib.ListN.{length, get_or}
@@ -33,13 +33,13 @@ use Rattle.op_drop_tickets.proofs.Removal.{mark_at, Agrees, Spares, under_agrees
 use Rattle.op_follow.specs.Lent.{is_lending, lent_by, without_loan}
 
 -- ---- the place that lends
-record LentAt (t : Tables) (pad : ℕ) (marks : List ℕ) (count : ℕ) (n : Name) : Type 0 where
+record LentAt (t : Tables) (pad : ℕ) (marks : List Bool) (count : ℕ) (n : Name) : Type 0 where
   at : ℕ
   low : at < count
-  lends : is_lending pad (get_or marks at 0) (on_pad t pad at) ≡ true
+  lends : is_lending pad (get_or marks at false) (on_pad t pad at) ≡ true
   below : at_or_below t (on_pad t pad at).other n ≡ true
 
-module _ (t : Tables) (pad : ℕ) (marks : List ℕ) (n : Name) where
+module _ (t : Tables) (pad : ℕ) (marks : List Bool) (n : Name) where
   lent_at : (count : ℕ) → lent_by t pad marks count n ≡ true → LentAt t pad marks count n
   unfolding lent_by
   lent_at zero e = no_true e
@@ -48,8 +48,8 @@ module _ (t : Tables) (pad : ℕ) (marks : List ℕ) (n : Name) where
       go : Case (lent_by t pad marks i n) → (lent_by t pad marks i n ≡ true → LentAt t pad marks i n) → LentAt t pad marks (suc i) n
       go (pass h) ih = let f = ih h in record { at = f.at; low = omega (arith, f.low); lends = f.lends; below = f.below }
       go (fail h) ih =
-          let w : (is_lending pad (get_or marks i 0) (on_pad t pad i) && at_or_below t (on_pad t pad i).other n) ≡ true = rw h at e in
-          record { at = i; low = omega arith; lends = and_l (is_lending pad (get_or marks i 0) (on_pad t pad i)) _ w; below = and_r (is_lending pad (get_or marks i 0) (on_pad t pad i)) _ w }
+          let w : (is_lending pad (get_or marks i false) (on_pad t pad i) && at_or_below t (on_pad t pad i).other n) ≡ true = rw h at e in
+          record { at = i; low = omega arith; lends = and_l (is_lending pad (get_or marks i false) (on_pad t pad i)) _ w; below = and_r (is_lending pad (get_or marks i false) (on_pad t pad i)) _ w }
 
   at_lent : (count : ℕ) → LentAt t pad marks count n → lent_by t pad marks count n ≡ true
   unfolding lent_by
@@ -57,11 +57,11 @@ module _ (t : Tables) (pad : ℕ) (marks : List ℕ) (n : Name) where
   at_lent (suc i) f = go (eq-or-lt_of_le (le_of_suc-le-suc f.low)) (at_lent i)
     where
       go : (f.at ≡ i) ⊎ (f.at < i) → (LentAt t pad marks i n → lent_by t pad marks i n ≡ true)
-          → (lent_by t pad marks i n || (is_lending pad (get_or marks i 0) (on_pad t pad i) && at_or_below t (on_pad t pad i).other n)) ≡ true
+          → (lent_by t pad marks i n || (is_lending pad (get_or marks i false) (on_pad t pad i) && at_or_below t (on_pad t pad i).other n)) ≡ true
       go (inr l) ih = or_left _ (ih (record { at = f.at; low = l; lends = f.lends; below = f.below }))
       go (inl e) ih =
           or_right (lent_by t pad marks i n)
-          (subst (λ (j : ℕ). (is_lending pad (get_or marks j 0) (on_pad t pad j) && at_or_below t (on_pad t pad j).other n) ≡ true) e (and_intro f.lends f.below))
+          (subst (λ (j : ℕ). (is_lending pad (get_or marks j false) (on_pad t pad j) && at_or_below t (on_pad t pad j).other n) ≡ true) e (and_intro f.lends f.below))
 
 -- ---- by names
 module _ (t : Tables) (z : Sized t) (a : ℕ) (low : a < 4) (test : ℕ → Bool) (names : Name → Bool) (agrees : Agrees t a test names) (spares : Spares t a names)
@@ -69,20 +69,20 @@ module _ (t : Tables) (z : Sized t) (a : ℕ) (low : a < 4) (test : ℕ → Bool
   abbrev lends : Name → Ticket → Bool
   lends m k = names m && not (eqb k.other.pad m.pad) && at_or_below t k.other n
 
-  record Parts (mark : ℕ) (k : Ticket) : Type 0 where
-    marked : eqb mark 1 ≡ true
+  record Parts (mark : Bool) (k : Ticket) : Type 0 where
+    marked : mark ≡ true
     recall : is_recall k.kind ≡ true
     away : not (eqb k.other.pad a) ≡ true
 
-  parts : (mark : ℕ) (k : Ticket) → is_lending a mark k ≡ true → Parts mark k
+  parts : (mark : Bool) (k : Ticket) → is_lending a mark k ≡ true → Parts mark k
   unfolding is_lending
   parts mark k e =
-      let f₁ : eqb mark 1 ≡ true = search (and_l, and_r) depth 4 in
+      let f₁ : mark ≡ true = search (and_l, and_r) depth 4 in
       let f₂ : is_recall k.kind ≡ true = search (and_l, and_r) depth 4 in
       let f₃ : not (eqb k.other.pad a) ≡ true = search (and_l, and_r) depth 4 in
       record { marked = f₁; recall = f₂; away = f₃ }
 
-  whole : (mark : ℕ) (k : Ticket) → Parts mark k → is_lending a mark k ≡ true
+  whole : (mark : Bool) (k : Ticket) → Parts mark k → is_lending a mark k ≡ true
   unfolding is_lending
   whole mark k p = and_intro (and_intro p.marked p.recall) p.away
 
@@ -96,7 +96,7 @@ module _ (t : Tables) (z : Sized t) (a : ℕ) (low : a < 4) (test : ℕ → Bool
       let j8 : j < 8 = omega arith in
       let q : f.at ≡ 8 * b + j = omega arith in
       let k : on_pad t a f.at ≡ ticket_at t a b j = ap (on_pad t a) q ∙ on_pad_lem t a b j b8 j8 in
-      let p : Parts (get_or (marks_of test) f.at 0) (ticket_at t a b j) = subst (Parts (get_or (marks_of test) f.at 0)) k (parts _ _ f.lends) in
+      let p : Parts (get_or (marks_of test) f.at false) (ticket_at t a b j) = subst (Parts (get_or (marks_of test) f.at false)) k (parts _ _ f.lends) in
       let d : j < length (tickets_of t a b) = omega (arith, j8, z.tickets a b low b8) in
       let m : names (name_of a b (ticket_at t a b j).number) ≡ true
       = sym (agrees b j b8 j8 (live_recall (ticket_at t a b j).kind p.recall)) ∙ ap test (sym q) ∙ sym (mark_at test f.at f.low) ∙ p.marked in
@@ -117,12 +117,12 @@ module _ (t : Tables) (z : Sized t) (a : ℕ) (low : a < 4) (test : ℕ → Bool
       fill il recall picked away below =
           let i8 : i < 8 = omega (arith, il, z.tickets a q low q8) in
           let k : on_pad t a (8 * q + i) ≡ ticket_at t a q i = on_pad_lem t a q i q8 i8 in
-          let m : eqb (get_or (marks_of test) (8 * q + i) 0) 1 ≡ true
+          let m : get_or (marks_of test) (8 * q + i) false ≡ true
           = mark_at test (8 * q + i) (omega arith) ∙ agrees q i q8 i8 (live_recall (ticket_at t a q i).kind recall) ∙ picked in
           record {
             at = 8 * q + i;
             low = omega arith;
-            lends = ap (is_lending a (get_or (marks_of test) (8 * q + i) 0)) k ∙ whole _ _ (record { marked = m; recall = recall; away = away });
+            lends = ap (is_lending a (get_or (marks_of test) (8 * q + i) false)) k ∙ whole _ _ (record { marked = m; recall = recall; away = away });
             below = ap (λ (x : Ticket). at_or_below t x.other n) k ∙ below;
           }
 
@@ -179,7 +179,7 @@ unfolding drop_entries lookup
 linked_kept cut t l = record { distinct = l.distinct; numbered = l.numbered; parent = l.parent; near = l.near }
 
 -- marks, then entries, then tickets: each step leaves what the next one reads as it was
-pub followed : (before middle after marks : List ℕ) → Linked (decode before) → (also x : Name) → x.pad < 4 → also.pad ≡ x.pad
+pub followed : (before middle after : List ℕ) (marks : List Bool) → Linked (decode before) → (also x : Name) → x.pad < 4 → also.pad ≡ x.pad
     → marks ≡ marks_of (under_on (decode before) also x) → (pad : ℕ) → pad ≡ x.pad
     → Holds middle (drop_entries (lent_by (decode before) pad marks 64) (decode before))
     → Cleared (64 * pad) 64 (λ p. is_marked marks (p - 64 * pad)) middle after
@@ -200,7 +200,7 @@ followed before middle after marks link also x low beside e pad q holds c =
 
     lent : (n : Name) → cut n ≡ lent_away (decode before) (also_under (decode before) also x) n
     lent n =
-        ap (λ (ms : List ℕ). lent_by (decode before) pad ms 64 n) e ∙ ap (λ (a : ℕ). lent_by (decode before) a (marks_of (under_on (decode before) also x)) 64 n) q
+        ap (λ (ms : List Bool). lent_by (decode before) pad ms 64 n) e ∙ ap (λ (a : ℕ). lent_by (decode before) a (marks_of (under_on (decode before) also x)) 64 n) q
         ∙ lent_by_names (decode before) (decoded_sized before) x.pad low (under_on (decode before) also x) (also_under (decode before) also x)
         (under_agrees (decode before) (decoded_sized before) link also x low beside) (under_spares (decode before) (decoded_sized before) link also x low beside) n
 

@@ -1,3 +1,2 @@
-pub mod Lending
 pub mod Turns
 pub mod ByNames

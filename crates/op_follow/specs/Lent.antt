@@ -10,14 +10,14 @@ use Rattle.image_pads.specs.Places.{on_pad}
 use Rattle.op_drop_tickets.specs.Marks.{also_under}
 
 -- the ticket k is marked, and a recall of another pad's ticket
-unfoldable pub is_lending : ℕ → ℕ → Ticket → Bool
-is_lending pad mark k = eqb mark 1 && is_recall k.kind && not (eqb k.other.pad pad)
+unfoldable pub is_lending : ℕ → Bool → Ticket → Bool
+is_lending pad mark k = mark && is_recall k.kind && not (eqb k.other.pad pad)
 
 -- the entry n goes with what is marked in the first i places of the pad
-unfoldable pub lent_by : Tables → ℕ → List ℕ → ℕ → Name → Bool
+unfoldable pub lent_by : Tables → ℕ → List Bool → ℕ → Name → Bool
 lent_by t pad marks zero n = false
 lent_by t pad marks (suc i) n =
-    lent_by t pad marks i n || (is_lending pad (get_or marks i 0) (on_pad t pad i) && at_or_below t (on_pad t pad i).other n)
+    lent_by t pad marks i n || (is_lending pad (get_or marks i false) (on_pad t pad i) && at_or_below t (on_pad t pad i).other n)
 
 -- the tables without `also`, x and all under x, and in the dock without what was lent away from there
 abbrev pub without_loan : Tables → Name → Name → Tables

@@ -2,7 +2,7 @@
 
 #![tactic(auto)]
 
-ghost use Rattle.std.specs.Prelude.{◌<◌, ◌≡◌, true, length};
+ghost use Rattle.std.specs.Prelude.{◌<◌, ◌≡◌, true};
 ghost use Rattle.tables.specs.Change.{drop_entries};
 ghost use Rattle.image.specs.Image.{decode, is_image};
 ghost use Rattle.image_write.specs.Shows.{Holds};
@@ -14,44 +14,34 @@ use image_places::PAD;
 use tables::{Name, Ticket};
 
 // Is it marked, and a recall of another pad's ticket?
-fn is_lending(k: Ticket, pad: usize, mark: u8) -> bool
+#[tactic(auto, unfolding(crate::specs::Lent::is_lending))]
+fn is_lending(k: Ticket, pad: usize, mark: bool) -> bool
     ensures { result ≡ is_lending pad mark k }
 {
-    if mark != 1 {
-        return false;
-    }
-    let kind = k.kind;
-    if !kind.is_recall() {
-        return false;
-    }
-    let target = k.other;
-    image_places::wide(target.pad) != pad
+    mark && k.kind.is_recall() && k.other.pad as usize != pad
 }
 
 // The entries that such recalls name go, one after the other, each with all below it. The marked tickets stay readable.
-fn drop_lent(image: &mut [u8], pad: usize, marks: &[u8])
-    requires { (is_image image.old ≡ true) × ((pad < 4) × ((length marks.now ≡ 64) × LinkedEntries (decode image.old).entries)) }
+#[tactic(auto, using(image::proofs::RoundTrip::image_whole))]
+fn drop_lent(image: &mut [u8], pad: usize, marks: &[bool; PAD])
+    requires { (is_image image.old ≡ true) × ((pad < 4) × LinkedEntries (decode image.old).entries) }
     ensures { Holds image.new (drop_entries (lent_by (decode image.old) pad marks.now 64) (decode image.old)) }
 {
-    let from = PAD * pad;
-    let mut i: usize = 0;
-    while i < PAD {
-        let k = image_read::ticket_at(image, from + i);
-        let mark = marks[i];
-        i = i + 1;
+    for (i, &mark) in marks.iter().enumerate() {
+        let k = image_read::ticket_at(image, PAD * pad + i);
         if is_lending(k, pad, mark) {
-            let target = k.other;
-            op_drop_entries::drop_below(image, target);
+            op_drop_entries::drop_below(image, k.other);
         }
     }
 }
 
 // The tables without `also`, x and all under x, and in the dock without what was lent away from there.
+#[tactic(auto, using(image::proofs::RoundTrip::image_whole))]
 pub fn drop_followed(image: &mut [u8], also: Name, x: Name)
     requires { (is_image image.old ≡ true) × (Linked (decode image.old) × (((x.pad < 4) × (also.pad ≡ x.pad)) × LinkedEntries (decode image.old).entries)) }
     ensures { Holds image.new (without_loan (decode image.old) also x) }
 {
-    let mut marks = [0u8; 64];
+    let mut marks = [false; PAD];
     op_drop_tickets::mark_under(image, also, x, &mut marks);
     drop_lent(image, x.pad as usize, &marks);
     op_clear_tickets::clear_marked(image, x.pad as usize, &marks);

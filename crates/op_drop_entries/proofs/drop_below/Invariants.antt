@@ -16,9 +16,6 @@ invariant-loop-i l =
     (is_image l.image ≡ true) × (l.tail ≤ 256)
     × ((bytes : List ℕ) → Going bytes l.at l.initial.image l.initial.queue l.initial.tail l.head → l.head < l.initial.tail → l.n ≡ get_or l.initial.queue l.head no_name → Turning bytes l.at l.image l.queue l.tail l.head l.n l.i)
 
-abbrev pub decreases-loop-i : goal.decreases-loop-i
-decreases-loop-i l = 256 - l.i
-
 abbrev pub invariant-loop-head : goal.invariant-loop-head
 invariant-loop-head l =
     (is_image l.image ≡ true) × (l.tail ≤ 256) × ((bytes : List ℕ) → Going bytes l.at l.initial.image l.initial.queue l.initial.tail l.initial.head → Going bytes l.at l.image l.queue l.tail l.head)

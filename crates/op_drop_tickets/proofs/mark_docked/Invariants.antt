@@ -1,13 +1,9 @@
 -- The first i places have been marked or left.
-use Prim.Native.Nat.{◌-◌, ◌≤◌}
+use mathlib.Core.Bool.{false}
 use Rattle.lists.proofs.Laid.{Laid}
 use Rattle.image.specs.Image.{decode}
-use Rattle.op_drop_tickets.specs.Marks.{mark_of}
 use Rattle.op_drop_tickets.specs.Docked.{docked_on}
 use Rattle.op_drop_tickets.proofs.mark_docked.Given as goal
 
 abbrev pub invariant-loop-i : goal.invariant-loop-i
-invariant-loop-i l = (l.i ≤ 64) × Laid 0 64 (λ j. mark_of (docked_on (decode l.image) l.d j)) l.i l.marks
-
-abbrev pub decreases-loop-i : goal.decreases-loop-i
-decreases-loop-i l = 64 - l.i
+invariant-loop-i l = Laid false 64 (docked_on (decode l.image) l.d) l.i l.marks

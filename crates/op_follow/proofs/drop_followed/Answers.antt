@@ -1,12 +1,7 @@
 -- Marks, then entries, then tickets.
 use mathlib.Core.Path.{refl}
-use Rattle.image.proofs.RoundTrip.{image_whole}
 use Rattle.op_follow.proofs.ByNames.{followed}
 use Rattle.op_follow.proofs.drop_followed.Goals as goal
-
-pub mark_under-requires : goal.mark_under-requires
-mark_under-requires c =
-    (image_whole c.args.image.now c.requires.0, (c.requires.1.1.0.0, refl))
 
 pub returns : goal.returns
 returns c =
