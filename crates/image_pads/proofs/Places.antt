@@ -43,13 +43,13 @@ module _ (numbers : List ℕ) (b m : ℕ) where
   unfolding place_in
   place_none e = first_test (eqb m 0) (ltb 7 b) (leb 8 index_in) 64 (8 * b + index_in) (eq-eqb m 0 e)
 
-  pub place_out : 7 < b → 64 ≡ place_in numbers b m
+  place_out : 7 < b → 64 ≡ place_in numbers b m
   unfolding place_in
   place_out h = second_test (eqb m 0) (ltb 7 b) (leb 8 index_in) 64 (8 * b + index_in) (lt-ltb 7 b h)
 
   -- i is what the search found
   module _ (i : ℕ) (e : i ≡ index_in) where
-    pub place_missing : 8 ≤ i → 64 ≡ place_in numbers b m
+    place_missing : 8 ≤ i → 64 ≡ place_in numbers b m
     unfolding place_in
     place_missing h =
         third_test (eqb m 0) (ltb 7 b) (leb 8 index_in) 64 (8 * b + index_in) (le-leb 8 index_in (subst (λ (j : ℕ). 8 ≤ j) e h))
@@ -97,7 +97,3 @@ module _ (numbers : List ℕ) (program : ℕ) (k : Ticket) where
   pub up_fits : up_of numbers program k ≤ 64
   unfolding up_of
   up_fits = up_by_fits k.kind numbers program k
-
-  pub up_kind : (q : Kind) → k.kind ≡ q → up_by q numbers program k ≡ up_of numbers program k
-  unfolding up_of
-  up_kind q e = ap (λ (r : Kind). up_by r numbers program k) (sym e)

@@ -15,62 +15,46 @@ pub fn write_numbers(image: &[u8], pad: usize, to: &mut [u16])
     requires { (length image.now ≡ image_size) × ((pad < 4) × (length to.old ≡ 64)) }
     ensures { to.new ≡ numbers_of (decode image.now) pad }
 {
-    let from = PAD * pad;
-    let mut i: usize = 0;
-    while i < PAD {
-        let k = image_read::ticket_at(image, from + i);
-        to[i] = image_places::number_of(k);
-        i = i + 1;
+    for (i, to) in to.iter_mut().enumerate() {
+        *to = image_places::number_of(image_read::ticket_at(image, PAD * pad + i));
     }
 }
 
 // The place of a program's number; 64 where there is none.
+#[tactic(auto, unfolding(crate::specs::Places::place_in), using(crate::proofs::Places::row_index))]
 pub fn place_in(numbers: &[u16], program: usize, number: u16) -> usize
     requires { length numbers.now ≡ 64 }
     ensures { result ≡ place_in numbers.now program number }
 {
-    if number == 0 {
+    if number == 0 || 8 <= program {
         return 64;
     }
-    if 7 < program {
-        return 64;
-    }
-    let from = 8 * program;
-    let i = image_places::index_of(&numbers[from..from + 8], number);
-    if 8 <= i {
-        return 64;
-    }
-    from + i
+    let from = PROGRAM * program;
+    let i = image_places::index_of(&numbers[from..from + PROGRAM], number);
+    if i < PROGRAM { from + i } else { 64 }
 }
 
 // The place of the parent of a program's ticket: a child names its parent's program, a recall stands in its own.
+#[tactic(auto, unfolding(crate::specs::Places::up_of))]
 fn up_of(k: Ticket, program: usize, numbers: &[u16]) -> usize
     requires { length numbers.now ≡ 64 }
     ensures { result ≡ up_of numbers.now program k }
 {
-    let kind = k.kind;
-    match kind {
-        Kind::Free => 64,
-        Kind::Taken => 64,
-        Kind::Received => 64,
-        Kind::Child => {
-            let parent = k.other;
-            place_in(numbers, parent.program as usize, parent.number)
-        }
+    match k.kind {
+        Kind::Free | Kind::Taken | Kind::Received => 64,
+        Kind::Child => place_in(numbers, k.other.program as usize, k.other.number),
         Kind::Recall => place_in(numbers, program, k.own),
     }
 }
 
 // The place of the parent of each ticket of the pad, 64 where it has none.
+#[tactic(auto, using(crate::proofs::Places::up_fits))]
 pub fn write_ups(image: &[u8], pad: usize, numbers: &[u16], to: &mut [u16])
     requires { (length image.now ≡ image_size) × ((pad < 4) × ((length numbers.now ≡ 64) × (length to.old ≡ 64))) }
     ensures { to.new ≡ ups_of (decode image.now) pad numbers.now }
 {
-    let from = PAD * pad;
-    let mut i: usize = 0;
-    while i < PAD {
-        let k = image_read::ticket_at(image, from + i);
-        to[i] = up_of(k, i / PROGRAM, numbers) as u16;
-        i = i + 1;
+    for (i, to) in to.iter_mut().enumerate() {
+        let k = image_read::ticket_at(image, PAD * pad + i);
+        *to = up_of(k, i / PROGRAM, numbers) as u16;
     }
 }

@@ -11,31 +11,30 @@ use image::{ENTRIES, ENTRY, PROGRAM, PROGRAM_LAST, TICKET};
 use tables::{Entry, Ticket};
 
 // Place: 8 * the program, counted over all pads, + the place in it.
+#[tactic(auto, using(image::proofs::RoundTrip::image_whole))]
 pub fn put_ticket(image: &mut [u8], place: usize, k: Ticket)
     requires { (is_image image.old ≡ true) × (place < 256) }
     ensures { Shows image.new (set (tickets_in image.old) place k) (lasts_in image.old) (entries_in image.old) }
 {
     let at = PROGRAM * (place / 8) + TICKET * (place % 8);
-    let end = at + TICKET;
-    image_records::put_ticket(&mut image[at..end], k);
+    image_records::put_ticket(&mut image[at..at + TICKET], k);
 }
 
 // The last number of a program, counted over all pads.
+#[tactic(auto, using(image::proofs::RoundTrip::image_whole))]
 pub fn put_last(image: &mut [u8], program: usize, last: u16)
     requires { (is_image image.old ≡ true) × (program < 32) }
     ensures { Shows image.new (tickets_in image.old) (set (lasts_in image.old) program last) (entries_in image.old) }
 {
     let at = PROGRAM * program + PROGRAM_LAST;
-    let end = at + 2;
-    let numbers = [last];
-    image_records::put_numbers(&mut image[at..end], &numbers);
+    image_records::put_numbers(&mut image[at..at + 2], &[last]);
 }
 
+#[tactic(auto, using(image::proofs::RoundTrip::image_whole))]
 pub fn put_entry(image: &mut [u8], place: usize, e: Entry)
     requires { (is_image image.old ≡ true) × (place < 256) }
     ensures { Shows image.new (tickets_in image.old) (lasts_in image.old) (set (entries_in image.old) place e) }
 {
     let at = ENTRIES + ENTRY * place;
-    let end = at + ENTRY;
-    image_records::put_entry(&mut image[at..end], e);
+    image_records::put_entry(&mut image[at..at + ENTRY], e);
 }

@@ -25,7 +25,7 @@ use Rattle.image_write.proofs.Entries.{with_entries, other_entries}
 use Rattle.op_drop_entries.specs.Links.{directly_below, LinkedEntries}
 use Rattle.op_drop_entries.proofs.Reaching.{under, without_below}
 use Rattle.op_drop_entries.proofs.Queue.{was}
-use Rattle.op_drop_entries.proofs.Turns.{Turns, Turn, turn_none, turn_kept, turn_room, turn_under, turn_gone, turns_more, x_named, drop_none, drop_begins, drop_ends}
+use Rattle.op_drop_entries.proofs.Turns.{Turns, Turn, turn_kept, turn_room, turn_under, turn_gone, turns_more, x_named, drop_none, drop_begins, drop_ends}
 
 -- the image has the tickets and last numbers that it had, and the queue's names are those of the entries at these places
 pub record Lying (bytes image : List ℕ) (queue : List Name) (places : List ℕ) (tail : ℕ) : Type 0 where
@@ -48,13 +48,6 @@ pub record Turning (bytes : List ℕ) (start : ℕ) (image : List ℕ) (queue : 
   pub turn : Turn (entries_in bytes) (entries_in image) start places tail head n i
 
 module _ {bytes : List ℕ} {start : ℕ} {image : List ℕ} {queue : List Name} {tail head : ℕ} where
-  pub turning_none : Going bytes start image queue tail head → head < tail → Turning bytes start image queue tail head (get_or queue head no_name) 0
-  turning_none g h = record {
-    places = g.places;
-    lying = g.lying;
-    turn = subst (λ (n : Name). Turn (entries_in bytes) (entries_in image) start g.places tail head n 0) (sym (g.lying.named head h)) (turn_none g.turns h);
-  }
-
   module _ {n : Name} {i : ℕ} (t : Turning bytes start image queue tail head n i) where
     pub going_more : 256 ≤ i → Going bytes start image queue tail (head + 1)
     going_more b = record { places = t.places; lying = t.lying; turns = turns_more t.turn b }

@@ -83,9 +83,6 @@ pub record Turn (es us : List Entry) (start : ℕ) (queue : List ℕ) (tail head
   pub sweeping : Sweeping n us i
 
 module _ {es us : List Entry} {start : ℕ} {queue : List ℕ} {tail head : ℕ} where
-  pub turn_none : Turns es us start queue tail head → head < tail → Turn es us start queue tail head (at es (get_or queue head 0)).name 0
-  turn_none t c = record { turns = t; more = c; of = refl; within = omega arith; sweeping = λ j d. absurd (omega arith) }
-
   module _ {n : Name} {i : ℕ} (t : Turn es us start queue tail head n i) where
     -- the entry at place i is not directly below n: it stays
     pub turn_kept : i < 256 → directly_below n (at us i) ≡ false → Turn es us start queue tail head n (i + 1)

@@ -10,25 +10,26 @@ ghost use Rattle.image_write.specs.Shows.{Holds};
 use tables::{Entry, Ticket};
 
 // The ticket goes to a program, counted over all pads, if that has a free place; its number is the last given.
+#[tactic(auto, using(image::proofs::RoundTrip::image_whole))]
 pub fn give(image: &mut [u8], program: usize, k: Ticket)
     requires { (is_image image.old ≡ true) × (program < 32) }
     ensures { Holds image.new (give (decode image.old) (program / 8) (program % 8) k) }
 {
     let place = image_find::free_place(image, program);
     image_write::put_last(image, program, k.number);
-    if 8 <= place {
-        return;
+    if place < 8 {
+        image_write::put_ticket(image, 8 * program + place, k);
     }
-    image_write::put_ticket(image, 8 * program + place, k);
 }
 
+// The entry stands in the lowest free place, if there is one.
+#[tactic(auto, using(image::proofs::RoundTrip::image_whole))]
 pub fn make(image: &mut [u8], e: Entry)
     requires { is_image image.old ≡ true }
     ensures { Holds image.new (put_entry (decode image.old) e) }
 {
     let place = image_find::spare_place(image);
-    if 256 <= place {
-        return;
+    if place < 256 {
+        image_write::put_entry(image, place, e);
     }
-    image_write::put_entry(image, place, e);
 }

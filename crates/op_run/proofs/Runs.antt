@@ -118,14 +118,6 @@ module _ (e : Entry) (l : List ℕ) where
 
 -- ---- the bound below which an entry begins
 module _ (e : Entry) (bound : ℕ) where
-  bound_dead : e.live ≡ false → bound ≡ begins_below e bound
-  unfolding begins_below
-  bound_dead v = rw v
-
-  bound_high : e.live ≡ true → 256 ≤ e.first → bound ≡ begins_below e bound
-  unfolding begins_below
-  bound_high v b = rw (le-ltb e.first 256 b, v)
-
   bound_noted : e.live ≡ true → e.first < 256 → begins_below e bound ≡ max bound (e.first + 1)
   unfolding begins_below
   bound_noted v b = rw (lt-ltb e.first 256 b, v)
@@ -283,10 +275,6 @@ module _ (es : List Entry) (count a : ℕ) where
       → is_free_run es count a ≡ true
   unfolding is_free_run
   run_free b clear = and_intro (le-leb (a + count) 256 b) (all_intro no_entry (outside a count) es (λ j c. clear_of count a (at es j) (clear j c)))
-
-  run_high : 256 < a + count → is_free_run es count a ≡ false
-  unfolding is_free_run
-  run_high h = rw (lt-leb (a + count) 256 h)
 
 -- ---- all ends noted
 pub bound_low : (es : List Entry) {before ends : List ℕ} {bound : ℕ} → NotesEnds es before ends bound → bound ≤ 256

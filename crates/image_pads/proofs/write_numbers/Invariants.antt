@@ -1,5 +1,4 @@
 -- The first i numbers have been stored.
-use Prim.Native.Nat.{◌-◌, ◌≤◌}
 use Rattle.lists.proofs.Laid.{Laid}
 use Rattle.image.specs.Image.{decode}
 use Rattle.image_places.specs.Places.{number_of}
@@ -7,7 +6,4 @@ use Rattle.image_pads.specs.Places.{on_pad}
 use Rattle.image_pads.proofs.write_numbers.Given as goal
 
 abbrev pub invariant-loop-i : goal.invariant-loop-i
-invariant-loop-i l = (l.i ≤ 64) × Laid 0 64 (λ j. number_of (on_pad (decode l.image) l.pad j)) l.i l.to
-
-abbrev pub decreases-loop-i : goal.decreases-loop-i
-decreases-loop-i l = 64 - l.i
+invariant-loop-i l = Laid 0 64 (λ j. number_of (on_pad (decode l.image) l.pad j)) l.i l.to

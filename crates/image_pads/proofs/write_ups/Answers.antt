@@ -1,39 +1,26 @@
 -- The first i places have been stored.
-use Prim.Native.Nat.{ℕ, ◌+◌, ◌*◌, ◌/◌, ◌≤◌}
+use Prim.Native.Nat.{◌+◌, ◌*◌, ◌/◌}
 use native.Mathlib.Omega.{arith}
-use mathlib.Core.Path.{sym, ap, subst, ◌∙◌}
+use mathlib.Core.Path.{ap, ◌∙◌}
 use Rattle.lists.proofs.Laid.{one_more}
 use Rattle.lists.proofs.PartLaws.{tabulated}
 use Rattle.image.specs.Image.{decode}
 use Rattle.image_find.proofs.Laws.{flattened}
 use Rattle.image_pads.specs.Places.{on_pad, up_of, ups_of}
-use Rattle.image_pads.proofs.Places.{up_fits}
 use Rattle.image_pads.proofs.write_ups.Goals as goal
-
-pub loop-i-init : goal.loop-i-init
-loop-i-init c = (omega arith, record { long = c.requires.1.1.1; same = λ p h. absurd (omega (arith, h)) })
-
-pub ticket_at-k-requires : goal.ticket_at-k-requires
-ticket_at-k-requires c =
-    (c.requires.0, omega (arith, c.requires.1.0, c.loop-i-test.true))
-
-pub overflow_cast-to : goal.overflow_cast-to
-overflow_cast-to c =
-    let low : c.up_of.result ≤ 64 = subst (λ (m : ℕ). m ≤ 64) (sym c.up_of.ensures) (up_fits _ _ _) in
-    omega arith
 
 pub loop-i-preserved : goal.loop-i-preserved
 loop-i-preserved c =
     let a = c.args in
-    let t = decode a.image.now in
-    let here = (flattened a.image.now).same (64 * a.pad + c.loop-i.i) (omega (arith, c.requires.1.0, c.loop-i-test.true)) in (
-      omega (arith, c.loop-i-test.true),
-      one_more 0 64 (λ j. up_of a.numbers.now (j / 8) (on_pad t a.pad j)) c.loop-i.i c.loop-i.to _ c.loop-i.invariant.1 (omega (arith, c.loop-i-test.true))
-          (c.up_of.ensures ∙ ap (up_of a.numbers.now (c.loop-i.i / 8)) (c.ticket_at-k.ensures ∙ here)),
-    )
+    let l = c.loop-i in
+    let k = c.ticket_at-k.ensures ∙ (flattened a.image.now).same (64 * a.pad + l.i) (omega (arith, c.requires.1.0, c.requires.1.1.1, c.loop-i-test.true)) in
+    one_more 0 64 (λ j. up_of a.numbers.now (j / 8) (on_pad (decode a.image.now) a.pad j)) l.i l.to _ l.invariant
+    (omega (arith, c.requires.1.1.1, c.loop-i-test.true))
+    (c.up_of.ensures ∙ ap (up_of a.numbers.now (l.i / 8)) k)
 
 pub returns : goal.returns
 unfolding ups_of
-returns c = let a = c.args in
+returns c =
+    let a = c.args in
     tabulated 0 64 c.loop-i.i (λ j. up_of a.numbers.now (j / 8) (on_pad (decode a.image.now) a.pad j)) c.loop-i.to
-    (omega (arith, c.loop-i-test.false)) c.loop-i.invariant.1
+    (omega (arith, c.requires.1.1.1, c.loop-i-test.false)) c.loop-i.invariant

@@ -3,12 +3,8 @@ use Prim.Native.Nat.{◌+◌, ◌-◌}
 use native.Mathlib.Omega.{arith}
 use Rattle.image.specs.Layout.{entry_size}
 use Rattle.image.specs.Image.{entry_start}
-use Rattle.image.proofs.RoundTrip.{image_whole}
 use Rattle.image_write.proofs.Put.{shows_entry}
 use Rattle.image_write.proofs.put_entry.Goals as goal
-
-pub slice_bounds-put_entry-end : goal.slice_bounds-put_entry-end
-slice_bounds-put_entry-end c = omega (arith, c.requires.1, image_whole c.args.image.now c.requires.0)
 
 pub returns : goal.returns
 returns c =

@@ -1,13 +1,9 @@
 -- The two bytes come back as the number's.
 use Prim.Native.Nat.{◌+◌, ◌-◌}
 use native.Mathlib.Omega.{arith}
-use Rattle.image.proofs.RoundTrip.{image_whole}
 use Rattle.image_read.specs.Places.{last_start}
 use Rattle.image_write.proofs.Put.{shows_last}
 use Rattle.image_write.proofs.put_last.Goals as goal
-
-pub slice_bounds-put_numbers-end : goal.slice_bounds-put_numbers-end
-slice_bounds-put_numbers-end c = omega (arith, c.requires.1, image_whole c.args.image.now c.requires.0)
 
 pub returns : goal.returns
 returns c =

@@ -3,12 +3,8 @@ use Prim.Native.Nat.{◌+◌, ◌-◌}
 use native.Mathlib.Omega.{arith}
 use Rattle.image.specs.Layout.{ticket_size}
 use Rattle.image.specs.Image.{ticket_start}
-use Rattle.image.proofs.RoundTrip.{image_whole}
 use Rattle.image_write.proofs.Put.{shows_ticket}
 use Rattle.image_write.proofs.put_ticket.Goals as goal
-
-pub slice_bounds-put_ticket-end : goal.slice_bounds-put_ticket-end
-slice_bounds-put_ticket-end c = omega (arith, c.requires.1, image_whole c.args.image.now c.requires.0)
 
 pub returns : goal.returns
 returns c =

@@ -1,20 +1,13 @@
 -- The last number is written, then the ticket, if there is a free place for it.
-use Rattle.image.proofs.RoundTrip.{image_whole}
 use Rattle.op_insert.proofs.Inserted.{given_here, given_nowhere}
 use Rattle.op_insert.proofs.give.Goals as goal
 
-pub free_place-place-requires : goal.free_place-place-requires
-free_place-place-requires c = (image_whole c.args.image.now c.requires.0, c.requires.1)
+pub returns-then-place-lt8 : goal.returns-then-place-lt8
+returns-then-place-lt8 c =
+    let a = c.args in
+    given_here a.image.now a.program c.requires.1 a.k c.free_place-place.ensures c.if-place-lt8.true c.put_last.ensures c.put_ticket.ensures
 
-pub returns-then-place-ge8 : goal.returns-then-place-ge8
-returns-then-place-ge8 c =
-    let found = c.free_place-place.ensures in
-    let last = c.put_last.ensures in
-    given_nowhere c.args.image.now c.args.program c.requires.1 c.args.k found c.if-place-ge8.true last
-
-pub returns : goal.returns
-returns c =
-    let found = c.free_place-place.ensures in
-    let low = c.if-place-ge8.false in
-    let last = c.put_last.ensures in
-    given_here c.args.image.now c.args.program c.requires.1 c.args.k found low last c.put_ticket.ensures
+pub returns-else-place-lt8 : goal.returns-else-place-lt8
+returns-else-place-lt8 c =
+    let a = c.args in
+    given_nowhere a.image.now a.program c.requires.1 a.k c.free_place-place.ensures c.if-place-lt8.false c.put_last.ensures
