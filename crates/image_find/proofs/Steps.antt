@@ -7,7 +7,6 @@ use mathlib.Core.List.{List}
 use lib.ListN.{length, get_or, get_or-eq_default}
 use Rattle.lists.specs.Lists.{first_index}
 use Rattle.lists.proofs.Tests.{Case, pass, fail, case, contradiction, cannot_pass, and_l}
-use Rattle.lists.proofs.Search.{find, find_passes}
 use Rattle.lists.proofs.Keyed.{nothing_found}
 use Rattle.tables.specs.declared.{Name.Name, Ticket.Ticket, Entry.Entry}
 use Rattle.tables.specs.Kinds.{is_live}
@@ -20,7 +19,8 @@ use Rattle.image.specs.Image.{decode}
 use Rattle.image_read.specs.Places.{tickets_in, entries_in}
 use Rattle.image_read.proofs.Places.{entries_long, entries_decoded}
 use Rattle.image_places.proofs.Laying.{at_place}
-use Rattle.image_places.proofs.Kept.{kept_low, kept_there}
+use Rattle.image_places.proofs.Kept.{kept_low}
+use Rattle.image_find.proofs.First.{first_is}
 use Rattle.image_find.proofs.Laws.{flattened, decoded_sized}
 
 -- ---- a program's tickets among all
@@ -56,38 +56,46 @@ module _ (bytes : List ℕ) (n : Name) where
       let r = name_in_range (decode bytes) (decoded_sized bytes) n l in
       contradiction (program_possible n.pad n.program (omega (arith, r.pad)) (omega (arith, r.program))) e))
 
-  module _ (p : is_program n.pad n.program ≡ true) where
+  -- ---- the search among a program's places, which begin at `start`: no ticket before place i has the number
+  module _ (p : is_program n.pad n.program ≡ true) (start : ℕ) (s : start ≡ 64 * n.pad + 8 * n.program) (i : ℕ)
+      (before : (j : ℕ) → j < i → has_number n.number (get_or (tickets_in bytes) (start + j) free) ≡ false) where
     abbrev tickets : List Ticket
     tickets = tickets_of (decode bytes) n.pad n.program
 
-    pub low_pad : n.pad < 4
-    low_pad = omega (arith, (is_program_lem n.pad n.program p).pad)
+    abbrev here : ℕ → Type 0
+    here j = get_or (tickets_in bytes) (start + j) free ≡ get_or tickets j free
 
-    pub low_program : n.program < 8
-    low_program = omega (arith, (is_program_lem n.pad n.program p).program)
+    low : n.pad < 4 × n.program < 8
+    low = let q = is_program_lem n.pad n.program p in (omega (arith, q.pad), omega (arith, q.program))
+
+    same : (j : ℕ) → j < 8 → here j
+    same j h = ap (λ (m : ℕ). get_or (tickets_in bytes) (m + j) free) s ∙ of_program bytes n.pad n.program low.0 low.1 j h
 
     long : length tickets ≡ 8
-    long = eight bytes n.pad n.program low_pad low_program
+    long = eight bytes n.pad n.program low.0 low.1
 
-    module _ (i : ℕ) (e : i ≡ first_index (has_number n.number) tickets) where
-      pub place_found : i < 8 → 64 * n.pad + 8 * n.program + i ≡ place_of (decode bytes) n
-      unfolding place_of lookup ticket_in has_number
-      place_found h =
-          let passes = find_passes (has_number n.number) tickets free (omega (arith, long)) in
-          rw (and_l (is_live (find (has_number n.number) tickets free).kind) _ passes) (omega arith)
+    spot : i ≤ 8 → (i < 8 → has_number n.number (get_or (tickets_in bytes) (start + i) free) ≡ true) → i ≡ first_index (has_number n.number) tickets
+    spot h there =
+        first_is (has_number n.number) free tickets i (omega (arith, long))
+        (λ j g. ap (has_number n.number) (sym (same j (omega arith))) ∙ before j g)
+        (λ g. ap (has_number n.number) (sym (same i (omega (arith, long)))) ∙ there (omega (arith, long)))
 
-      pub place_missed : 8 ≤ i → place_of (decode bytes) n ≡ 256
-      unfolding lookup ticket_in
-      place_missed h =
-          no_place (ap (λ (k : Ticket). is_live k.kind) (get_or-eq_default tickets free (omega (arith, long))))
+    pub ticket_hit : i < 8 → has_number n.number (get_or (tickets_in bytes) (start + i) free) ≡ true
+        → (start + i ≡ place_of (decode bytes) n) × (get_or (tickets_in bytes) (start + i) free ≡ lookup (decode bytes) n)
+    unfolding place_of lookup ticket_in has_number
+    ticket_hit h y =
+        let e = spot (omega arith) (λ _. y) in
+        let k : get_or (tickets_in bytes) (start + i) free ≡ get_or tickets (first_index (has_number n.number) tickets) free
+        = same i h ∙ ap (λ (j : ℕ). get_or tickets j free) e in
+        let live : is_live (get_or tickets (first_index (has_number n.number) tickets) free).kind ≡ true
+        = ap (λ (x : Ticket). is_live x.kind) (sym k) ∙ and_l (is_live (get_or (tickets_in bytes) (start + i) free).kind) _ y in
+        (rw live (omega (arith, e, s)), k)
 
-  -- ---- what stands there
-  pub ticket_there : place_of (decode bytes) n < 256 → get_or (tickets_in bytes) (place_of (decode bytes) n) free ≡ lookup (decode bytes) n
-  ticket_there h = go (case (is_live (lookup (decode bytes) n).kind))
-    where
-      go : Case (is_live (lookup (decode bytes) n).kind) → get_or (tickets_in bytes) (place_of (decode bytes) n) free ≡ lookup (decode bytes) n
-      go (pass l) = (flattened bytes).same (place_of (decode bytes) n) h ∙ kept_there (decode bytes) (decoded_sized bytes) n l
-      go (fail e) = absurd (omega (arith, no_place e))
+    pub ticket_missed : i ≡ 8 → place_of (decode bytes) n ≡ 256
+    unfolding lookup ticket_in
+    ticket_missed h =
+        let e = spot (omega arith) (λ g. absurd (omega arith)) in
+        no_place (ap (λ (k : Ticket). is_live k.kind) (get_or-eq_default tickets free (omega (arith, e, long))))
 
   pub ticket_nowhere : 256 ≤ place_of (decode bytes) n → lookup (decode bytes) n ≡ free
   ticket_nowhere h = go (case (is_live (lookup (decode bytes) n).kind))

@@ -2,7 +2,7 @@
 
 #![tactic(auto)]
 
-ghost use Rattle.std.specs.Prelude.{ℕ, ◌≤◌, ◌/◌, ◌%◌, ◌<◌, ◌≡◌, true, false, length};
+ghost use Rattle.std.specs.Prelude.{ℕ, IfNone, IfSome, ◌≤◌, ◌/◌, ◌%◌, ◌<◌, ◌≡◌, true, false, length};
 ghost use Rattle.lists.specs.Lists.{first_index};
 ghost use Rattle.tables.specs.Lookup.{is_named, program_at, tickets_of, lookup, place_of, entry_of};
 ghost use Rattle.tables.specs.Change.{is_free, is_spare};
@@ -28,34 +28,46 @@ fn first_place<F: Fn(usize) -> bool>(count: usize, passes: F) -> usize
     count
 }
 
-// The place of the live ticket of a name, counted over all pads and programs, or 256.
+// The live ticket of a name and its place. Both together: a look-up is in the inner step of every walk, and reads no ticket twice.
 #[tactic(auto, using(crate::proofs::Steps::no_program_lem, tables::proofs::NameLaws::is_program_lem))]
-pub fn ticket_place(image: &[u8], n: Name) -> usize
+fn found(image: &[u8], n: Name) -> Option<(usize, Ticket)>
     requires { length image.now ≡ image_size }
-    ensures { result ≡ place_of (decode image.now) n }
+    ensures nowhere { IfNone result (place_of (decode image.now) n ≡ 256) }
+    ensures there { IfSome result (λ s. (s.0 ≡ place_of (decode image.now) n) × (s.1 ≡ lookup (decode image.now) n)) }
 {
     if !n.is_of_program() {
-        return 256;
+        return None;
     }
     let from = PAD * usize::from(n.pad) + PROGRAM * usize::from(n.program);
-    let i = first_place(
-        PROGRAM,
-        |i| image_read::ticket_at(image, from + i).has_number(n.number),
-    );
-    if i < PROGRAM { from + i } else { 256 }
+    for i in 0..PROGRAM {
+        let k = image_read::ticket_at(image, from + i);
+        if k.has_number(n.number) {
+            return Some((from + i, k));
+        }
+    }
+    None
 }
 
 // The live ticket of a name, or the free record.
-#[tactic(auto, using(crate::proofs::Steps::ticket_there, crate::proofs::Steps::ticket_nowhere))]
+#[tactic(auto, using(crate::proofs::Steps::ticket_nowhere))]
 pub fn ticket(image: &[u8], n: Name) -> Ticket
     requires { length image.now ≡ image_size }
     ensures { result ≡ lookup (decode image.now) n }
 {
-    let place = ticket_place(image, n);
-    if place < 256 {
-        image_read::ticket_at(image, place)
-    } else {
-        Ticket::free()
+    match found(image, n) {
+        Some((_, k)) => k,
+        None => Ticket::free(),
+    }
+}
+
+// The place of the live ticket of a name, counted over all pads and programs, or 256.
+pub fn ticket_place(image: &[u8], n: Name) -> usize
+    requires { length image.now ≡ image_size }
+    ensures { result ≡ place_of (decode image.now) n }
+{
+    match found(image, n) {
+        Some((place, _)) => place,
+        None => 256,
     }
 }
 
