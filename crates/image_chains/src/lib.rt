@@ -18,9 +18,9 @@ pub fn links(image: &[u8], n: Name, k: Ticket) -> u16
     ensures { result ≡ chain_links (decode image.now) n }
 {
     let mut up = k.parent(n);
-    for count in 0..PAD as u16 {
+    for count in 0..PAD {
         if up.number == 0 {
-            return count;
+            return count as u16;
         }
         up = image_find::ticket(image, up).parent(up);
     }
