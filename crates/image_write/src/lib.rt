@@ -1,6 +1,6 @@
 // The tables changed where they lie: a ticket, a last number and an entry written into the image at their places.
 
-#![tactic(auto)]
+#![tactic(auto, using(image::proofs::RoundTrip::image_whole))]
 
 ghost use Rattle.std.specs.Prelude.{◌<◌, ◌≡◌, true, set};
 ghost use Rattle.image.specs.Image.{is_image};
