@@ -52,6 +52,7 @@ fn hung_ok(image: &[u8], numbers: &[u16], notes: &[u16], hung: &[u16]) -> bool
 }
 
 // Every taken grant has its entry.
+#[tactic(auto, using(crate::proofs::TakenSteps::taken_broken, crate::proofs::TakenSteps::taken_all))]
 fn taken_ok(taken: &[u16], notes: &[u16]) -> bool
     requires { (length notes.now ≡ 256) × AllBelow 256 taken.now }
     ensures { (tickets : List Ticket) → length tickets ≡ 256 → TicketsListed (λ k. is_taken k.kind) tickets taken.now → result ≡ taken_noted notes.now tickets }

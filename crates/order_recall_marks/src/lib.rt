@@ -51,6 +51,7 @@ pub fn write_keys(image: &[u8], numbers: &[u16], recalls: &[u16], keys: &mut [us
 }
 
 // No place is the target of two recalls. The places of targets are marked on the way.
+#[tactic(auto, using(crate::proofs::Seen::marks_not))]
 pub fn mark_places(keys: &[usize; 256], recalls: &[u16], marks: &mut [u8; 256]) -> bool
     requires { (length keys.now ≡ 256) × ((marks.old ≡ replicate 256 0) × KeysListed keys.now recalls.now) }
     ensures { Marked keys.now marks.new result }
@@ -88,6 +89,7 @@ pub fn dead_once(keys: &[usize; 256], recalls: &[u16]) -> bool
 }
 
 // Each of the places is marked.
+#[tactic(auto, using(lists::proofs::Loops::all_broken))]
 pub fn all_marked(places: &[u16], marks: &[u8; 256]) -> bool
     requires { AllBelow 256 places.now }
     ensures { result ≡ all (is_marked marks.now) places.now }

@@ -4,18 +4,12 @@ use Prim.Native.Nat.{ℕ}
 use native.Mathlib.Omega.{arith}
 use mathlib.Core.Path.{ap}
 use lib.ListN.{get_or}
-use Rattle.order_recall_marks.proofs.Seen.{marks_none, marks_skip, marks_more, marks_not, marks_end}
+use Rattle.order_recall_marks.proofs.Seen.{marks_none, marks_skip, marks_more, marks_end}
 use Rattle.order_recall_marks.proofs.mark_places.Goals as goal
 use Rattle.order_recall_marks.proofs.mark_places.Goals.{then-key-lt256+else-marks-key-ne0, else-key-lt256}
 
 pub loop-at-init : goal.loop-at-init
 loop-at-init c = marks_none c.args.keys.now c.args.recalls.now c.args.marks.now c.requires.1.0
-
-pub returns-then-marks-key-ne0 : goal.returns-then-marks-key-ne0
-returns-then-marks-key-ne0 c =
-    let keys = c.args.keys.now in
-    marks_not keys c.args.recalls.now c.loop-at.at-index c.loop-at.marks c.loop-at.invariant _ (ap (λ (p : ℕ). get_or keys p 0) c.from.ensures)
-    c.if-key-lt256.true c.requires.0 c.requires.1.1 c.loop-at-test.true c.if-marks-key-ne0.true
 
 pub loop-at-preserved : goal.loop-at-preserved
 loop-at-preserved c =
