@@ -12,8 +12,7 @@ use borrow.Author.Tests.{eqb-true, eqb-false}
 use Rattle.lists.proofs.Tests.{Case, pass, fail, case}
 use Rattle.order_lists.specs.Listing.{Listing, Beside, Source, Values}
 
--- a list grows by one at most
-pub one_more : (b : Bool) (more : ℕ) → more ≡ from_bool b → more ≤ 1
+one_more : (b : Bool) (more : ℕ) → more ≡ from_bool b → more ≤ 1
 one_more true more e = omega (arith, e)
 one_more false more e = omega (arith, e)
 
