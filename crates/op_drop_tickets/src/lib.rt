@@ -83,6 +83,7 @@ fn mark_docked(image: &[u8], d: Name, marks: &mut [bool; PAD])
 // ---- for callers
 
 // The tables without the head of a chain and all under it: what is under it has its dock name, so nothing is walked.
+#[tactic(auto, using(image::proofs::RoundTrip::image_whole, image_find::proofs::Laws::decoded_sized, crate::proofs::Removal::head_low))]
 pub fn drop_head(image: &mut [u8], h: Name)
     requires { (is_image image.old ≡ true) × (Linked (decode image.old) × (Heads (decode image.old) × (is_head (lookup (decode image.old) h).kind ≡ true))) }
     ensures { Holds image.new (drop_tickets (at_or_under (decode image.old) h) (decode image.old)) }

@@ -22,7 +22,7 @@ fn is_lending(k: Ticket, pad: usize, mark: bool) -> bool
 }
 
 // The entries that such recalls name go, one after the other, each with all below it. The marked tickets stay readable.
-#[tactic(auto, using(image::proofs::RoundTrip::image_whole))]
+#[tactic(auto, using(image::proofs::RoundTrip::image_whole, crate::proofs::Turns::begins, crate::proofs::Turns::linked_now))]
 fn drop_lent(image: &mut [u8], pad: usize, marks: &[bool; PAD])
     requires { (is_image image.old ≡ true) × ((pad < 4) × LinkedEntries (decode image.old).entries) }
     ensures { Holds image.new (drop_entries (lent_by (decode image.old) pad marks.now 64) (decode image.old)) }

@@ -4,18 +4,9 @@ use native.Mathlib.Omega.{arith}
 use mathlib.Core.Path.{refl, sym, ◌∙◌}
 use Rattle.image.specs.Image.{decode}
 use Rattle.image_find.proofs.Laws.{flattened}
-use Rattle.op_follow.proofs.Turns.{begins, turned, passed, linked_now}
+use Rattle.op_follow.proofs.Turns.{turned, passed}
 use Rattle.op_follow.proofs.drop_lent.Goals as goal
 use Rattle.op_follow.proofs.drop_lent.Goals.{then-is_lending, else-is_lending}
-
-pub loop-i-init : goal.loop-i-init
-loop-i-init c = record { is = c.requires.0; tables = sym (begins (decode c.args.image.now) c.requires.1.1 c.args.pad c.args.marks.now) }
-
-pub drop_below-requires : goal.drop_below-requires
-drop_below-requires c =
-    let l = c.loop-i in
-    let a = c.args in
-    (l.invariant.is, linked_now (decode a.image.now) c.requires.1.1 a.pad a.marks.now l.i (decode l.image) l.invariant.tables)
 
 pub loop-i-preserved : goal.loop-i-preserved
 loop-i-preserved c =
