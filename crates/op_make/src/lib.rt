@@ -14,16 +14,14 @@ use tables::{Entry, Kind, Name, Ticket};
 pub fn head(kind: Kind, n: Name, first: u16, count: u16, rights: u16) -> Ticket
     ensures { result ≡ head_ticket kind n first count (rights_of rights) }
 {
-    let none = Name::none();
-    let held = Rights::make(rights);
     Ticket {
-        kind: kind,
+        kind,
         number: n.number,
         own: 0,
-        other: none,
-        first: first,
-        count: count,
-        rights: held,
+        other: Name::none(),
+        first,
+        count,
+        rights: Rights::make(rights),
         dock: n,
     }
 }
@@ -32,16 +30,15 @@ pub fn head(kind: Kind, n: Name, first: u16, count: u16, rights: u16) -> Ticket
 pub fn child(number: u16, parent: Name, first: u16, count: u16, rights: u16, dock: Name) -> Ticket
     ensures { result ≡ grant_ticket Child number parent first count (rights_of rights) dock }
 {
-    let held = Rights::make(rights);
     Ticket {
         kind: Kind::Child,
-        number: number,
+        number,
         own: 0,
         other: parent,
-        first: first,
-        count: count,
-        rights: held,
-        dock: dock,
+        first,
+        count,
+        rights: Rights::make(rights),
+        dock,
     }
 }
 
@@ -49,17 +46,15 @@ pub fn child(number: u16, parent: Name, first: u16, count: u16, rights: u16, doc
 pub fn recall(number: u16, own: u16, target: Name) -> Ticket
     ensures { result ≡ recall_ticket number own target }
 {
-    let none = Name::none();
-    let nothing = Rights::make(0);
     Ticket {
         kind: Kind::Recall,
-        number: number,
-        own: own,
+        number,
+        own,
         other: target,
         first: 0,
         count: 0,
-        rights: nothing,
-        dock: none,
+        rights: Rights::make(0),
+        dock: Name::none(),
     }
 }
 
@@ -67,13 +62,12 @@ pub fn recall(number: u16, own: u16, target: Name) -> Ticket
 pub fn entry(n: Name, parent: Name, first: u16, count: u16, rights: u16) -> Entry
     ensures { result ≡ entry_for n parent first count (rights_of rights) }
 {
-    let held = Rights::make(rights);
     Entry {
         live: true,
         name: n,
-        parent: parent,
-        first: first,
-        count: count,
-        rights: held,
+        parent,
+        first,
+        count,
+        rights: Rights::make(rights),
     }
 }
