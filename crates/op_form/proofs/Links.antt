@@ -1,7 +1,7 @@
 -- The chain of 1, 2 and 3, link by link: what the code's tests say of the answer.
 use Prim.Native.Nat.{ℕ, ◌≤◌, ◌<◌}
 use native.Mathlib.Omega.{arith}
-use mathlib.Core.Path.{◌≡◌, sym, ap, ◌∙◌}
+use mathlib.Core.Path.{◌≡◌, ap, ◌∙◌}
 use mathlib.Core.Bool.{Bool, not}
 use borrow.Author.Tests.{le-leb, lt-leb}
 use Rattle.lists.specs.Tests.{between}
@@ -10,30 +10,15 @@ use Rattle.tables.specs.Names.{is_program}
 use Rattle.tables.proofs.NameLaws.{program_possible}
 use Rattle.machine.specs.declared.Request.{Request}
 use Rattle.machine.specs.Refusal.{◌when◌else◌}
-use Rattle.machine.specs.Operation.{Fields, taking, passing, recalling, reading, operation_of, used_by, fields_ok}
+use Rattle.machine.specs.Operation.{Fields, operation_of, used_by, fields_ok}
 use Rattle.op_form.specs.declared.Used.{Used}
 use Rattle.op_form.specs.Early.{fields_of, early_refusal}
-use Rattle.op_form.proofs.Numbers.{op_take, op_pass, ticket_used, sheet_used}
 
 -- the operation is one of the six, and `used` says what it uses
 pub record Chosen (op : ℕ) (used : Used) : Type 0 where
   pub low : 1 ≤ op
   pub high : op ≤ 6
   pub fields : fields_of used ≡ used_by (operation_of op)
-
--- by the ways of the match
-module _ (op : ℕ) (used : Used) where
-  pub take_chosen : op ≡ 1 → fields_of used ≡ used_by taking → Chosen op used
-  take_chosen e f = record { low = omega arith; high = omega arith; fields = f ∙ sym (ap used_by (op_take op e)) }
-
-  pub pass_chosen : op ≡ 2 → fields_of used ≡ used_by passing → Chosen op used
-  pass_chosen e f = record { low = omega arith; high = omega arith; fields = f ∙ sym (ap used_by (op_pass op e)) }
-
-  pub ticket_chosen : (op ≡ 1 → ⊥) → (op ≡ 2 → ⊥) → 1 ≤ op → op < 5 → fields_of used ≡ used_by recalling → Chosen op used
-  ticket_chosen a b l h f = record { low = l; high = omega arith; fields = f ∙ sym (ticket_used op (omega arith) (omega arith)) }
-
-  pub sheet_chosen : 5 ≤ op → op < 7 → fields_of used ≡ used_by reading → Chosen op used
-  sheet_chosen l h f = record { low = omega arith; high = omega arith; fields = f ∙ sym (sheet_used op l (omega arith)) }
 
 module _ (r : Request) where
   pub bad_pad : 3 < r.pad → 1 ≡ early_refusal r
@@ -60,3 +45,5 @@ module _ (r : Request) where
           let same : ok ≡ fields_ok (used_by (operation_of r.op)) r = e ∙ ap (λ (u : Fields). fields_ok u r) k.fields in
           rw (program_possible r.pad r.program a b, between_test 1 6 r.op k.low k.high)
           (ap (λ (x : Bool). 3 when not x else 0) same)
+
+pub ruleset form_links = (bad_pad, bad_program, low_op, high_op)

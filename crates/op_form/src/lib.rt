@@ -4,10 +4,11 @@
 
 ghost use Rattle.std.specs.Prelude.{◌≤◌, ◌≡◌, length};
 ghost use Rattle.machine.specs.Numbers.{request_width, request_of};
+ghost use Rattle.machine.specs.Refusal.{said};
 ghost use Rattle.machine.specs.Operation.{field_ok, fields_ok};
 ghost use Rattle.op_form.specs.Early.{fields_of, early_refusal};
 
-use machine::Request;
+use machine::{Refusal, Request};
 
 // Numbers of a request and of an answer.
 pub const REQUEST: usize = 9;
@@ -58,51 +59,34 @@ const ALL: Used = Used {
 };
 
 // A used field must be in its range, an unused one 0.
+#[tactic(auto, unfolding(machine::specs::Operation::field_ok, lists::specs::Tests::between))]
 fn field_ok(used: bool, low: u16, high: u16, x: u16) -> bool
     ensures { result ≡ field_ok used low high x }
 {
-    if !used {
-        return x == 0;
-    }
-    if x < low {
-        return false;
-    }
-    x <= high
+    if used { low <= x && x <= high } else { x == 0 }
 }
 
+#[tactic(auto, unfolding(machine::specs::Operation::fields_ok))]
 fn fields_ok(used: Used, r: Request) -> bool
     ensures { result ≡ fields_ok (fields_of used) r }
 {
-    if !field_ok(used.ticket, 1, 65535, r.ticket) {
-        return false;
-    }
-    if !field_ok(used.recipient, 0, 3, r.topad) {
-        return false;
-    }
-    if !field_ok(used.recipient, 0, 7, r.toprogram) {
-        return false;
-    }
-    if !field_ok(used.first, 0, 255, r.first) {
-        return false;
-    }
-    if !field_ok(used.count, 1, 256, r.count) {
-        return false;
-    }
-    field_ok(used.rights, 1, 7, r.rights)
+    field_ok(used.ticket, 1, 65535, r.ticket)
+        && field_ok(used.recipient, 0, 3, r.topad)
+        && field_ok(used.recipient, 0, 7, r.toprogram)
+        && field_ok(used.first, 0, 255, r.first)
+        && field_ok(used.count, 1, 256, r.count)
+        && field_ok(used.rights, 1, 7, r.rights)
 }
 
-// 1, 2 or 3, or 0 where none of them holds.
-pub fn refusal(r: Request) -> u16
-    ensures { result ≡ early_refusal r }
+// 1, 2 or 3 where one of them holds.
+#[tactic(auto, using(crate::proofs::Links::form_links))]
+pub fn refusal(r: Request) -> Result<(), Refusal>
+    ensures { said result ≡ early_refusal r }
 {
-    if 3 < r.pad {
-        return 1;
+    if 3 < r.pad || 7 < r.program {
+        return Err(Refusal::NoProgram);
     }
-    if 7 < r.program {
-        return 1;
-    }
-    let op = r.op;
-    let used = match op {
+    let used = match r.op {
         1 => Used {
             count: true,
             rights: true,
@@ -118,7 +102,11 @@ pub fn refusal(r: Request) -> u16
             first: true,
             ..NONE
         },
-        _ => return 2,
+        _ => return Err(Refusal::NoOperation),
     };
-    if fields_ok(used, r) { 0 } else { 3 }
+    if fields_ok(used, r) {
+        Ok(())
+    } else {
+        Err(Refusal::Field)
+    }
 }
