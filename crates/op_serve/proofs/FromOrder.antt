@@ -1,6 +1,8 @@
 -- Tables in order meet what serving asks of them.
 use mathlib.Core.Path.{◌≡◌}
+use Prim.Native.Nat.{ℕ}
 use mathlib.Core.Bool.{true, false}
+use mathlib.Core.List.{List}
 use Rattle.tables.specs.declared.{Name.Name, Tables.Tables}
 use Rattle.tables.specs.Names.{is_none}
 use Rattle.tables.specs.Lookup.{Sized, lookup, entry_of, last_of}
@@ -12,9 +14,12 @@ use Rattle.preservation.proofs.Walks.{end_good}
 use Rattle.preservation.proofs.RuleFacts.{positive, entry_head, live_named, parent_live}
 use Rattle.preservation.proofs.Places.{parent_pad, entry_chain_short}
 use Rattle.preservation.proofs.TestMeansOrder.{test_means_order}
+use Rattle.image.specs.Image.{decode}
+use Rattle.image_find.proofs.Laws.{decoded_sized}
 use Rattle.op_drop_tickets.specs.Linked.{Linked}
 use Rattle.op_drop_entries.specs.Links.{LinkedEntries}
 use Rattle.op_outcome.specs.Ready.{Ready}
+use Rattle.op_serve.specs.Contract.{ReadyToServe}
 use Rattle.op_serve.proofs.ByDock.{heads}
 
 module _ (t : Tables) (ok : InOrder t) where
@@ -43,3 +48,7 @@ module _ (t : Tables) (ok : InOrder t) where
 
 pub ready : (t : Tables) → Sized t → in_order t ≡ true → Ready t
 ready t z e = ready_from t (test_means_order t z e)
+
+-- so do lent buffers that are
+pub ready_lent : {image store sheet : List ℕ} → ReadyToServe image store sheet → Ready (decode image)
+ready_lent {image} b = ready (decode image) (decoded_sized image) b.order

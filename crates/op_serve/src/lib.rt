@@ -15,12 +15,10 @@ pub fn request(tables: &mut [u8], store: &mut [u8], sheet: &mut [u8], r: Request
     requires { ReadyToServe tables.old store.old sheet.old }
     ensures { LeavesLent (serve (state_of (decode tables.old) store.old sheet.old) r) result tables.new store.new sheet.new }
 {
-    let early = op_form::refusal(r);
-    if early != 0 {
-        return op_outcome::plain(early);
+    if let Err(refusal) = op_form::refusal(r) {
+        return Answer::refused(refusal);
     }
-    let op = r.op;
-    match op {
+    match r.op {
         1 => op_take::take(tables, store, r),
         2 => op_pass::pass(tables, r),
         3 => op_recall::recall(tables, r),
