@@ -1,43 +1,48 @@
 -- What a read or a write knows of its ticket where it is refused and where it is accepted, and what it leaves.
-use Prim.Native.Nat.{ℕ, ◌+◌, ◌<◌}
+use Prim.Native.Nat.{ℕ, ◌<◌}
 use native.Mathlib.Omega.{arith}
-use mathlib.Core.Path.{◌≡◌, refl, sym, subst, ◌∙◌}
+use mathlib.Core.Path.{◌≡◌, refl, sym, ◌∙◌}
 use mathlib.Core.Bool.{true}
 use mathlib.Core.List.{List}
 use Rattle.tables.specs.declared.{Ticket.Ticket, Tables.Tables}
 use Rattle.tables.specs.Kinds.{is_grant}
-use Rattle.machine.specs.declared.{Request.Request, Answer.Answer}
+use Rattle.std.specs.Prelude.{Ok, Err}
+use Rattle.machine.specs.declared.{Request.Request, Answer.Answer, Refusal.Refusal}
+use Rattle.machine.specs.Refusal.{number_of}
 use Rattle.machine.specs.State.{asked, accepted, sheet_at, put_sheets, state_of}
 use Rattle.machine.specs.Operation.{Operation, reading, writing, operation_of}
 use Rattle.machine.specs.Access.{sheet_of, access_refusal, after_read, after_write}
 use Rattle.machine.specs.Step.{own_refusal, after_own, serve}
 use Rattle.op_form.specs.Early.{early_refusal}
 use Rattle.op_refusals.proofs.Results.{access_grant, sheet_low}
-use Rattle.op_outcome.specs.declared.Decision.{Decision}
 use Rattle.op_outcome.specs.Outcomes.{outcome_of, plainly, Serves}
 use Rattle.op_outcome.specs.Ready.{Ready}
-use Rattle.op_outcome.specs.Decides.{Decides}
+use Rattle.op_access.specs.Decides.{Decides}
 use Rattle.op_outcome.specs.Refusing.{MayRefuse, Refuses}
 use Rattle.op_outcome.proofs.Laws.{may_refuse, refuses, served_done}
 
-module _ (right : ℕ) (t : Tables) (r : Request) (early : early_refusal r ≡ 0) (ready : Ready t) {d : Decision} (is : Decides (access_refusal right) t r d) where
-  grant : d.result ≡ 12 → is_grant (asked t r).kind ≡ true
-  grant e = access_grant t r 12 (λ z. omega (arith, z)) (λ z. omega (arith, z)) right (sym is.result ∙ e)
+module _ (right : ℕ) (t : Tables) (r : Request) (early : early_refusal r ≡ 0) where
+  -- it is refused
+  module _ (ready : Ready t) {refusal : Refusal} (is : Decides right t r (Err refusal)) (k : Ticket) (found : asked t r ≡ k) where
+    grant : number_of refusal ≡ 12 → is_grant (asked t r).kind ≡ true
+    grant e = access_grant t r 12 (λ z. omega (arith, z)) (λ z. omega (arith, z)) right (sym is.result ∙ e)
 
-  pub may_be_refused : (d.result ≡ 0 → ⊥) → MayRefuse t d.result d.ticket
-  may_be_refused ne = may_refuse t r early d.result ne d.ticket is.ticket ready grant
+    pub may_be_refused : MayRefuse t refusal k
+    may_be_refused = may_refuse t r early refusal k found ready grant
 
-  pub sheet_in_store : d.result ≡ 0 → d.ticket.first + r.first < 256
-  sheet_in_store e = subst (λ (k : Ticket). k.first + r.first < 256) is.ticket (sheet_low right t r (sym is.result ∙ e))
+    -- for the operation that needs that right
+    pub refused : (op : Operation) → operation_of r.op ≡ op → own_refusal op t r ≡ access_refusal right t r
+        → {a : Answer} {image store sheet : List ℕ} → Refuses t refusal k a image → Serves (serve (state_of t store sheet) r) a image store sheet
+    refused op o own left = refuses t r early refusal k found ready grant left op o (is.result ∙ sym own)
 
-  -- for the operation that needs that right
-  module _ (op : Operation) (o : operation_of r.op ≡ op) (own : own_refusal op t r ≡ access_refusal right t r) (store sheet : List ℕ) where
-    pub refused : (d.result ≡ 0 → ⊥) → {a : Answer} {image : List ℕ} → Refuses t d.result d.ticket a image
-        → Serves (serve (state_of t store sheet) r) a image store sheet
-    refused ne left = refuses t r early d.result ne d.ticket is.ticket ready grant left op o (own ∙ sym is.result)
+  -- it is accepted
+  module _ {at : ℕ} (is : Decides right t r (Ok at)) where
+    pub sheet_in_store : at < 256
+    sheet_in_store = omega (arith, is.sheet, sheet_low right t r (sym is.result))
 
-    pub done : d.result ≡ 0 → after_own op (state_of t store sheet) r ≡ serve (state_of t store sheet) r
-    done e = served_done t store sheet r early op o (own ∙ sym is.result ∙ e)
+    pub done : (op : Operation) → operation_of r.op ≡ op → own_refusal op t r ≡ access_refusal right t r
+        → (store sheet : List ℕ) → after_own op (state_of t store sheet) r ≡ serve (state_of t store sheet) r
+    done op o own store sheet = served_done t store sheet r early op o (own ∙ sym is.result)
 
 module _ (t : Tables) (r : Request) where
   pub own_read : own_refusal reading t r ≡ access_refusal 1 t r

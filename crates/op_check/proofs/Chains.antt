@@ -1,13 +1,16 @@
--- A chain of refusals from the results of its tests: past the tests that failed, to the one that passed or to the end.
+-- A chain of refusals from the results of its tests: a test that passed decides, one that failed leaves it to the rest.
 use Prim.Native.Nat.{ℕ}
 use mathlib.Core.Path.{◌≡◌}
 use mathlib.Core.Bool.{Bool, true, false}
+use Rattle.std.proofs.lemmas.Bool.Decides.{nat_tests}
 use Rattle.machine.specs.Refusal.{◌when◌else◌}
 
-pub here : {n : ℕ} {b : Bool} (later : ℕ) → b ≡ true → n ≡ (n when b else later)
+pub when_true : (n : ℕ) (b : Bool) (later : ℕ) → b ≡ true → (n when b else later) ≡ n
 unfolding ◌when◌else◌
-here later e = rw e
+when_true n b later e = rw e
 
-pub past : (n : ℕ) {b : Bool} {later x : ℕ} → b ≡ false → x ≡ later → x ≡ (n when b else later)
+pub when_false : (n : ℕ) (b : Bool) (later : ℕ) → b ≡ false → (n when b else later) ≡ later
 unfolding ◌when◌else◌
-past n e q = rw e q
+when_false n b later e = rw e
+
+pub ruleset chain = (when_true, when_false, nat_tests)

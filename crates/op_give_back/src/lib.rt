@@ -12,34 +12,32 @@ ghost use Rattle.op_outcome.specs.Outcomes.{Serves};
 ghost use Rattle.op_outcome.specs.Ready.{Ready, Asks};
 ghost use Rattle.op_outcome.specs.Decides.{Decides};
 
-use machine::{Answer, Request};
-use op_outcome::Decision;
+use machine::{Answer, Refusal, Request};
+use tables::Ticket;
 
-// 4, 5 or 0. Nothing changes.
-pub fn allowed(image: &[u8], r: Request) -> Decision
+// The taken grant that is asked for; or 4 or 5. Nothing changes.
+pub fn allowed(image: &[u8], r: Request) -> Result<Ticket, Refusal>
     requires { length image.now ≡ image_size }
     ensures { Decides give_back_refusal (decode image.now) r result }
 {
     let k = op_outcome::asked(image, r);
-    Decision {
-        result: op_refusals::give_back(k),
-        ticket: k,
-    }
+    op_refusals::give_back(k)?;
+    Ok(k)
 }
 
 // The taken grant is given back: its entry and all below it go, it and all under it go, its sheets become 0.
+#[tactic(auto, using(image::proofs::RoundTrip::image_whole))]
 pub fn give_back(image: &mut [u8], store: &mut [u8], r: Request) -> Answer
     requires { (is_image image.old ≡ true) × ((length store.old ≡ 16384) × (Ready (decode image.old) × Asks 4 r)) }
     ensures { (sheet : List ℕ) → Serves (serve (state_of (decode image.old) store.old sheet) r) result image.new store.new sheet }
 {
-    let d = allowed(image, r);
-    if d.result != 0 {
-        return op_outcome::plain(d.result);
-    }
+    let k = match allowed(image, r) {
+        Ok(k) => k,
+        Err(refusal) => return Answer::refused(refusal),
+    };
     let own = op_outcome::asked_name(r);
-    let k = d.ticket;
-    op_sheets::clear_sheets(store, k.first as usize, k.count as usize);
+    op_sheets::clear_sheets(store, usize::from(k.first), usize::from(k.count));
     op_drop_tickets::drop_head(image, own);
     op_drop_entries::drop_below(image, own);
-    op_outcome::plain(0)
+    Answer::accepted(0, 0)
 }

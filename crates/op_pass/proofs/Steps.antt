@@ -11,10 +11,12 @@ use Rattle.tables.specs.Kinds.{is_grant}
 use Rattle.tables.specs.Names.{name_of, grant_ticket, head_ticket, recall_ticket, entry_for}
 use Rattle.tables.specs.Change.{give, put_entry}
 use Rattle.rights.specs.Rules.{rights_of}
-use Rattle.machine.specs.declared.{Request.Request, Answer.Answer}
+use Rattle.std.specs.Prelude.{Ok, Err}
+use Rattle.machine.specs.declared.{Request.Request, Answer.Answer, Refusal.Refusal}
+use Rattle.machine.specs.Refusal.{number_of}
 use Rattle.machine.specs.State.{answer_of, accepted, with_tables, asked_name, asked, state_of}
 use Rattle.machine.specs.Operation.{passing, operation_of}
-use Rattle.machine.specs.Pass.{pass_refusal, pass_tables, after_pass}
+use Rattle.machine.specs.Pass.{pass_tables, after_pass}
 use Rattle.machine.specs.Step.{own_refusal, after_own, serve}
 use Rattle.op_form.proofs.Numbers.{op_pass}
 use Rattle.op_refusals.proofs.Results.{pass_grant}
@@ -22,15 +24,9 @@ use Rattle.op_outcome.specs.Outcomes.{outcome_of, Serves}
 use Rattle.op_outcome.specs.Ready.{Ready, Asks}
 use Rattle.op_outcome.specs.Refusing.{MayRefuse, Refuses}
 use Rattle.op_outcome.proofs.Laws.{may_refuse, refuses, served_done}
-use Rattle.op_pass.specs.declared.Decision.{Decision}
-use Rattle.op_pass.specs.Decides.{refused_by, Decides}
+use Rattle.op_pass.specs.declared.Numbers.{Numbers}
+use Rattle.op_pass.specs.Decides.{Decides}
 use Rattle.op_pass.specs.Grant.{granted}
-
--- ---- a refusal decided
-pub decided : (t : Tables) (r : Request) (k : Ticket) → asked t r ≡ k → (n : ℕ) → n ≡ pass_refusal t r → (n ≡ 0 → ⊥)
-    → {d : Decision} → d ≡ refused_by n k → Decides t r d
-decided t r k found n e ne f =
-    subst (Decides t r) (sym f) (record { result = e; ticket = found; own = λ z. absurd (ne z); other = λ z. absurd (ne z) })
 
 -- ---- the recipient's grant, from the parts that the code has made
 module _ (t : Tables) (k : Ticket) (r : Request) (n : Name) where
@@ -52,44 +48,37 @@ module _ (t : Tables) (k : Ticket) (r : Request) (n : Name) where
       put' ∙ (λ i. put_entry ((put ∙ ap (give t r.topad r.toprogram) made) i) (entered i)) ∙ rw (ne_eqb r.pad r.topad h)
 
 -- ---- the outcome
-module _ (t : Tables) (r : Request) (ready : Ready t) (asks : Asks 2 r) {d : Decision} (is : Decides t r d) where
+module _ (t : Tables) (r : Request) (ready : Ready t) (asks : Asks 2 r) where
   op : operation_of r.op ≡ passing
   op = op_pass r.op asks.number
 
-  own_refusal_lem : own_refusal passing t r ≡ d.result
-  unfolding own_refusal
-  own_refusal_lem = sym is.result
+  -- it is refused; 12 is said of a grant
+  module _ {refusal : Refusal} (is : Decides t r (Err refusal)) (k : Ticket) (found : asked t r ≡ k) where
+    lost_grant : number_of refusal ≡ 12 → is_grant (asked t r).kind ≡ true
+    lost_grant e = pass_grant t r 12 (λ z. omega (arith, z)) (λ z. omega (arith, z)) (sym is.result ∙ e)
 
-  -- 12 and 0 are said of a grant
-  grant_asked : (n : ℕ) → (4 ≡ n → ⊥) → (5 ≡ n → ⊥) → d.result ≡ n → is_grant (asked t r).kind ≡ true
-  grant_asked n ne ne' e = pass_grant t r n ne ne' (sym is.result ∙ e)
+    pub may_be_refused : MayRefuse t refusal k
+    may_be_refused = may_refuse t r asks.early refusal k found ready lost_grant
 
-  lost_grant : d.result ≡ 12 → is_grant (asked t r).kind ≡ true
-  lost_grant = grant_asked 12 (λ z. omega (arith, z)) (λ z. omega (arith, z))
+    pub refused : {a : Answer} {image : List ℕ} → Refuses t refusal k a image
+        → (store sheet : List ℕ) → Serves (serve (state_of t store sheet) r) a image store sheet
+    unfolding own_refusal
+    refused left store sheet = refuses t r asks.early refusal k found ready lost_grant left passing op is.result
 
-  pub may_be_refused : (d.result ≡ 0 → ⊥) → MayRefuse t d.result d.ticket
-  may_be_refused ne = may_refuse t r asks.early d.result ne d.ticket is.ticket ready lost_grant
-
-  pub refused : (d.result ≡ 0 → ⊥) → {a : Answer} {image : List ℕ} → Refuses t d.result d.ticket a image
-      → (store sheet : List ℕ) → Serves (serve (state_of t store sheet) r) a image store sheet
-  refused ne left store sheet = refuses t r asks.early d.result ne d.ticket is.ticket ready lost_grant left passing op own_refusal_lem
-
-  module _ (zero : d.result ≡ 0) where
+  -- it is accepted
+  module _ {numbers : Numbers} (is : Decides t r (Ok numbers)) (k : Ticket) (found : asked t r ≡ k) where
     -- the sheets lent are within the ticket's, so within the store
-    pub first_fits : d.ticket.first ≤ 256
+    pub first_fits : k.first ≤ 256
     first_fits =
-        let fits = ready.span (asked_name r) (grant_asked 0 (λ z. omega (arith, z)) (λ z. omega (arith, z)) zero) in
-        subst (λ (k : Ticket). k.first ≤ 256) is.ticket (omega (arith, fits))
+        let fits = ready.span (asked_name r) (pass_grant t r 0 (λ z. omega (arith, z)) (λ z. omega (arith, z)) (sym is.result)) in
+        subst (λ (x : Ticket). x.first ≤ 256) found (omega (arith, fits))
 
-    pub passed : {recall : Ticket} → recall ≡ recall_ticket d.own r.ticket (name_of r.topad r.toprogram d.other)
+    pub passed : {recall : Ticket} → recall ≡ recall_ticket numbers.own r.ticket (name_of r.topad r.toprogram numbers.other)
         → {lent : Tables} → lent ≡ give t r.pad r.program recall
-        → {u : Tables} → u ≡ granted lent d.ticket r (name_of r.topad r.toprogram d.other)
-        → (store sheet : List ℕ) → outcome_of (answer_of 0 d.own d.other) u store sheet ≡ serve (state_of t store sheet) r
-    unfolding after_own after_pass accepted with_tables pass_tables granted
+        → {u : Tables} → u ≡ granted lent k r (name_of r.topad r.toprogram numbers.other)
+        → (store sheet : List ℕ) → outcome_of (answer_of 0 numbers.own numbers.other) u store sheet ≡ serve (state_of t store sheet) r
+    unfolding own_refusal after_own after_pass accepted with_tables pass_tables granted
     passed made given put store sheet =
-        let own = is.own zero in
-        let other = is.other zero in
-        let lent = given ∙ ap (give t r.pad r.program) (made ∙ (λ i. recall_ticket (own i) r.ticket (name_of r.topad r.toprogram (other i)))) in
-        let u = put ∙ (λ i. granted (lent i) (sym is.ticket i) r (name_of r.topad r.toprogram (other i))) in
-        (λ i. outcome_of (answer_of 0 (own i) (other i)) (u i) store sheet)
-        ∙ served_done t store sheet r asks.early passing op (own_refusal_lem ∙ zero)
+        let lent = given ∙ ap (give t r.pad r.program) (made ∙ (λ i. recall_ticket (is.own i) r.ticket (name_of r.topad r.toprogram (is.other i)))) in
+        let u = put ∙ (λ i. granted (lent i) (sym found i) r (name_of r.topad r.toprogram (is.other i))) in
+        (λ i. outcome_of (answer_of 0 (is.own i) (is.other i)) (u i) store sheet) ∙ served_done t store sheet r asks.early passing op (sym is.result)

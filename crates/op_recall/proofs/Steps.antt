@@ -9,7 +9,8 @@ use Rattle.tables.specs.declared.{Name.Name, Ticket.Ticket, Tables.Tables}
 use Rattle.tables.specs.Names.{eq_name}
 use Rattle.tables.specs.Chains.{at_or_below}
 use Rattle.tables.specs.Change.{drop_tickets, drop_entries}
-use Rattle.machine.specs.declared.Request.{Request}
+use Rattle.machine.specs.declared.{Request.Request, Refusal.Refusal}
+use Rattle.machine.specs.Refusal.{number_of}
 use Rattle.machine.specs.State.{accepted, with_tables, asked_name, asked, state_of}
 use Rattle.machine.specs.Operation.{recalling, operation_of}
 use Rattle.machine.specs.Recall.{recall_refusal, recall_tables, after_recall}
@@ -45,10 +46,10 @@ module _ (t : Tables) (store sheet : List ℕ) (r : Request) (asks : Asks 3 r) w
   op : operation_of r.op ≡ recalling
   op = op_recall r.op asks.number
 
-  pub refused : {n : ℕ} → n ≡ recall_refusal t r → (n ≡ 0 → ⊥) → outcome_of (plainly n) t store sheet ≡ serve (state_of t store sheet) r
+  pub refused : (refusal : Refusal) → number_of refusal ≡ recall_refusal t r → outcome_of (plainly (number_of refusal)) t store sheet ≡ serve (state_of t store sheet) r
   unfolding own_refusal
-  refused {n} e ne = served_refused t store sheet r asks.early recalling op n (sym e) ne (λ z. recall_not_lost t r (sym e ∙ z))
+  refused refusal e = served_refused t store sheet r asks.early recalling op refusal e (λ z. recall_not_lost t r (sym e ∙ z))
 
-  pub recalled : recall_refusal t r ≡ 0 → {u : Tables} → u ≡ recall_tables t r → outcome_of (plainly 0) u store sheet ≡ serve (state_of t store sheet) r
+  pub recalled : 0 ≡ recall_refusal t r → {u : Tables} → u ≡ recall_tables t r → outcome_of (plainly 0) u store sheet ≡ serve (state_of t store sheet) r
   unfolding own_refusal after_own after_recall accepted with_tables
-  recalled e f = ap (λ (u : Tables). outcome_of (plainly 0) u store sheet) f ∙ served_done t store sheet r asks.early recalling op e
+  recalled e f = ap (λ (u : Tables). outcome_of (plainly 0) u store sheet) f ∙ served_done t store sheet r asks.early recalling op (sym e)

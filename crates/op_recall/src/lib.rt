@@ -12,39 +12,37 @@ ghost use Rattle.op_outcome.specs.Outcomes.{Serves};
 ghost use Rattle.op_outcome.specs.Ready.{Ready, Asks};
 ghost use Rattle.op_outcome.specs.Decides.{Decides};
 
-use machine::{Answer, Request};
-use op_outcome::Decision;
+use machine::{Answer, Refusal, Request};
+use tables::Ticket;
 
-// 4, 5 or 0. Nothing changes.
-pub fn allowed(image: &[u8], r: Request) -> Decision
+// The recall that is asked for; or 4 or 5. Nothing changes.
+pub fn allowed(image: &[u8], r: Request) -> Result<Ticket, Refusal>
     requires { length image.now ≡ image_size }
     ensures { Decides recall_refusal (decode image.now) r result }
 {
     let k = op_outcome::asked(image, r);
-    Decision {
-        result: op_refusals::recall(k),
-        ticket: k,
-    }
+    op_refusals::recall(k)?;
+    Ok(k)
 }
 
 // What was lent is taken back. On the same pad the target and all under it go, with the recall, and in the dock what was lent away from
 // there. For another pad the recall goes, and the entry and all below it.
+#[tactic(auto, using(image::proofs::RoundTrip::image_whole))]
 pub fn recall(image: &mut [u8], r: Request) -> Answer
     requires { (is_image image.old ≡ true) × (Ready (decode image.old) × Asks 3 r) }
     ensures { (store : List ℕ) (sheet : List ℕ) → Serves (serve (state_of (decode image.old) store sheet) r) result image.new store sheet }
 {
-    let d = allowed(image, r);
-    if d.result != 0 {
-        return op_outcome::plain(d.result);
-    }
+    let k = match allowed(image, r) {
+        Ok(k) => k,
+        Err(refusal) => return Answer::refused(refusal),
+    };
     let own = op_outcome::asked_name(r);
-    let k = d.ticket;
     let target = k.other;
     if target.pad == r.pad {
         op_follow::drop_followed(image, own, target);
-        return op_outcome::plain(0);
+    } else {
+        op_drop_tickets::drop_one(image, own);
+        op_drop_entries::drop_below(image, target);
     }
-    op_drop_tickets::drop_one(image, own);
-    op_drop_entries::drop_below(image, target);
-    op_outcome::plain(0)
+    Answer::accepted(0, 0)
 }

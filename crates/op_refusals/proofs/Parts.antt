@@ -9,13 +9,13 @@ use Rattle.lists.proofs.Tests.{or_false_l, or_false_r}
 use Rattle.rights.specs.Rules.{rights_of}
 use Rattle.tables.specs.declared.{Ticket.Ticket, Tables.Tables}
 use Rattle.tables.specs.Change.{has_place}
-use Rattle.machine.specs.declared.Request.{Request}
+use Rattle.machine.specs.declared.{Request.Request, Refusal.Refusal}
 use Rattle.machine.specs.State.{asked}
-use Rattle.machine.specs.Refusal.{◌when◌else◌, is_spent}
+use Rattle.machine.specs.Refusal.{◌when◌else◌, number_of, is_spent}
 use Rattle.machine.specs.Pass.{pass_refusal}
 use Rattle.machine.specs.Dock.{dock_refusal}
 use Rattle.machine.specs.Access.{access_refusal}
-use Rattle.machine.proofs.RefusalLaws.{when_past}
+use Rattle.machine.proofs.RefusalLaws.{never_zero, when_past}
 use Rattle.op_refusals.specs.declared.Seat.{Seat}
 use Rattle.op_refusals.specs.Found.{Found, is_lost}
 use Rattle.op_refusals.specs.Parts.{◌or_else◌, pass_ticket_refusal, pass_room_refusal, access_ticket_refusal}
@@ -43,7 +43,7 @@ room t r k =
     12 when is_lost t r k else
     0
 
-module _ (t : Tables) (r : Request) (k : Ticket) (e : asked t r ≡ k) {first : ℕ} (said : first ≡ pass_ticket_refusal k r) where
+module _ (t : Tables) (r : Request) (k : Ticket) (e : asked t r ≡ k) where
   pass_in_parts : pass_refusal t r ≡ (pass_ticket_refusal k r or_else room t r k)
   unfolding pass_refusal pass_ticket_refusal
   pass_in_parts =
@@ -53,30 +53,30 @@ module _ (t : Tables) (r : Request) (k : Ticket) (e : asked t r ≡ k) {first : 
       (link 8 _ _ _ (λ z. omega (arith, z))
       (link 6 _ _ _ (λ z. omega (arith, z)) (link 7 _ _ _ (λ z. omega (arith, z)) (second_decides {x = 0} {a = 0} refl refl refl))))))
 
-  pub ticket_refuses : (first ≡ 0 → ⊥) → first ≡ pass_refusal t r
-  ticket_refuses ne = first_refuses (room t r k) said ne ∙ sym pass_in_parts
+  pub ticket_refuses : (refusal : Refusal) → number_of refusal ≡ pass_ticket_refusal k r → number_of refusal ≡ pass_refusal t r
+  ticket_refuses refusal said = first_refuses (room t r k) said (never_zero refusal) ∙ sym pass_in_parts
 
-  pub room_decides : first ≡ 0 → {p q : Seat} {lost : Bool} → Found t r k p q lost → {second : ℕ} → second ≡ pass_room_refusal p q lost
+  pub room_decides : 0 ≡ pass_ticket_refusal k r → {p q : Seat} {lost : Bool} → Found t r k p q lost → {second : ℕ} → second ≡ pass_room_refusal p q lost
       → second ≡ pass_refusal t r
   unfolding is_spent pass_room_refusal
-  room_decides z {p} {q} {lost} f h =
+  room_decides said {p} {q} {lost} f h =
       let found : pass_room_refusal p q lost ≡ room t r k
       = λ i.
       9 when f.asker.full i || f.recipient.full i else
       10 when leb 65535 (f.asker.last i) || leb 65535 (f.recipient.last i) else
       12 when f.entry i else
       0 in
-      second_decides said z (h ∙ found) ∙ sym pass_in_parts
+      second_decides said refl (h ∙ found) ∙ sym pass_in_parts
 
 -- a pass that has room has numbers left
 pub record NumbersLeft (p q : Seat) : Type 0 where
   pub asker : p.last < 65535
   pub recipient : q.last < 65535
 
-pub numbers_left : (p q : Seat) (lost : Bool) → pass_room_refusal p q lost ≡ 0 → NumbersLeft p q
+pub numbers_left : (p q : Seat) (lost : Bool) → 0 ≡ pass_room_refusal p q lost → NumbersLeft p q
 unfolding pass_room_refusal
 numbers_left p q lost e =
-    let p₉ = when_past 9 (p.full || q.full) _ 0 (λ z. omega (arith, z)) e in
+    let p₉ = when_past 9 (p.full || q.full) _ 0 (λ z. omega (arith, z)) (sym e) in
     let p₁₀ = when_past 10 (leb 65535 p.last || leb 65535 q.last) _ 0 (λ z. omega (arith, z)) p₉.1 in
     record {
       asker = leb-false 65535 p.last (or_false_l (leb 65535 p.last) (leb 65535 q.last) p₁₀.0);
@@ -84,7 +84,7 @@ numbers_left p q lost e =
     }
 
 -- ---- read and write
-module _ (right : ℕ) (t : Tables) (r : Request) (k : Ticket) (e : asked t r ≡ k) {first : ℕ} (said : first ≡ access_ticket_refusal (rights_of right) k r.first) where
+module _ (right : ℕ) (t : Tables) (r : Request) (k : Ticket) (e : asked t r ≡ k) where
   access_in_parts : access_refusal right t r
       ≡ (access_ticket_refusal (rights_of right) k r.first or_else dock_refusal t k.dock (k.first + r.first) right)
   unfolding access_refusal access_ticket_refusal
@@ -94,8 +94,13 @@ module _ (right : ℕ) (t : Tables) (r : Request) (k : Ticket) (e : asked t r �
       (link 5 _ _ _ (λ z. omega (arith, z))
       (link 6 _ _ _ (λ z. omega (arith, z)) (link 7 _ _ _ (λ z. omega (arith, z)) (second_decides {x = 0} {a = 0} refl refl refl)))))
 
-  pub pad_refuses : (first ≡ 0 → ⊥) → first ≡ access_refusal right t r
-  pad_refuses ne = first_refuses _ said ne ∙ sym access_in_parts
+  pub pad_refuses : (refusal : Refusal) → number_of refusal ≡ access_ticket_refusal (rights_of right) k r.first → number_of refusal ≡ access_refusal right t r
+  pad_refuses refusal said = first_refuses _ said (never_zero refusal) ∙ sym access_in_parts
 
-  pub dock_decides : first ≡ 0 → {second : ℕ} → second ≡ dock_refusal t k.dock (k.first + r.first) right → second ≡ access_refusal right t r
-  dock_decides z h = second_decides said z h ∙ sym access_in_parts
+  pub dock_decides : 0 ≡ access_ticket_refusal (rights_of right) k r.first → {second : ℕ} → second ≡ dock_refusal t k.dock (k.first + r.first) right
+      → second ≡ access_refusal right t r
+  dock_decides said h = second_decides said refl h ∙ sym access_in_parts
+
+pub ruleset access_parts = (pad_refuses, dock_decides)
+
+pub ruleset pass_parts = (ticket_refuses, room_decides, numbers_left)

@@ -8,11 +8,12 @@ ghost use Rattle.tables.specs.declared.Tables.{Tables};
 ghost use Rattle.tables.specs.Names.{same_program};
 ghost use Rattle.machine.specs.declared.Request.{Request};
 ghost use Rattle.machine.specs.State.{asked};
+ghost use Rattle.machine.specs.Refusal.{said};
 ghost use Rattle.machine.specs.Recall.{recall_refusal};
 ghost use Rattle.machine.specs.GiveBack.{give_back_refusal};
 ghost use Rattle.op_refusals.specs.Parts.{kind_refusal, pass_ticket_refusal, pass_room_refusal, access_ticket_refusal};
 
-use machine::Request;
+use machine::{Refusal, Request};
 use rights::Rights;
 use tables::{Kind, Ticket};
 
@@ -23,117 +24,104 @@ pub struct Seat {
     pub last: u16,
 }
 
+#[tactic(auto, unfolding(tables::specs::Names::same_program))]
 fn is_to_itself(r: Request) -> bool
     ensures { result ≡ same_program r.pad r.program r.topad r.toprogram }
 {
-    if r.pad != r.topad {
-        return false;
-    }
-    r.program == r.toprogram
+    r.pad == r.topad && r.program == r.toprogram
 }
 
 // Does a ticket with these rights lack pass on, or one of the rights asked for?
 fn lacks_rights(held: Rights, asked: Rights) -> bool
     ensures { result ≡ (not (can_pass held) || not (within asked held)) }
 {
-    if !held.can_pass() {
-        return true;
-    }
-    !held.contains(asked)
+    !held.can_pass() || !held.contains(asked)
 }
 
-// A pass, by the ticket asked for: 4, 5, 8, 6, 7 or 0.
-pub fn pass_ticket(k: Ticket, r: Request) -> u16
-    ensures { result ≡ pass_ticket_refusal k r }
+// A pass, by the ticket asked for: 4, 5, 8, 6 or 7.
+#[tactic(auto, using(op_check::proofs::Chains::chain), unfolding(crate::specs::Parts::pass_ticket_refusal))]
+pub fn pass_ticket(k: Ticket, r: Request) -> Result<(), Refusal>
+    ensures { said result ≡ pass_ticket_refusal k r }
 {
-    let kind = k.kind;
-    if !kind.is_live() {
-        return 4;
+    if !k.kind.is_live() {
+        return Err(Refusal::NoTicket);
     }
-    if kind.is_recall() {
-        return 5;
+    if k.kind.is_recall() {
+        return Err(Refusal::WrongKind);
     }
     if is_to_itself(r) {
-        return 8;
+        return Err(Refusal::ToOneself);
     }
-    if (k.count as usize) < r.first as usize + r.count as usize {
-        return 6;
+    if usize::from(k.count) < usize::from(r.first) + usize::from(r.count) {
+        return Err(Refusal::Beyond);
     }
-    let held = k.rights;
-    let asked = Rights::make(r.rights);
-    if lacks_rights(held, asked) {
-        return 7;
+    if lacks_rights(k.rights, Rights::make(r.rights)) {
+        return Err(Refusal::RightLacking);
     }
-    0
+    Ok(())
 }
 
-// A pass, by the seats of asker and recipient, and whether the dock has lost the ticket's entry: 9, 10, 12 or 0.
-#[tactic(auto, using(crate::proofs::Room::room_links))]
-pub fn pass_room(p: Seat, q: Seat, lost: bool) -> u16
-    ensures { result ≡ pass_room_refusal p q lost }
+// A pass, by the seats of asker and recipient, and whether the dock has lost the ticket's entry: 9, 10 or 12.
+#[tactic(auto, using(op_check::proofs::Chains::chain), unfolding(crate::specs::Parts::pass_room_refusal))]
+pub fn pass_room(p: Seat, q: Seat, lost: bool) -> Result<(), Refusal>
+    ensures { said result ≡ pass_room_refusal p q lost }
 {
-    if p.full {
-        return 9;
+    if p.full || q.full {
+        return Err(Refusal::NoPlace);
     }
-    if q.full {
-        return 9;
-    }
-    if 65535 <= p.last {
-        return 10;
-    }
-    if 65535 <= q.last {
-        return 10;
+    if 65535 <= p.last || 65535 <= q.last {
+        return Err(Refusal::NoNumber);
     }
     if lost {
-        return 12;
+        return Err(Refusal::NoEntry);
     }
-    0
+    Ok(())
 }
 
-// 4 where there is no live ticket, 5 where it isn't of the kind that is wanted, or 0.
-fn kind_refusal(kind: Kind, wanted: bool) -> u16
-    ensures { result ≡ kind_refusal kind wanted }
+// 4 where there is no live ticket, 5 where it isn't of the kind that is wanted.
+#[tactic(auto, using(op_check::proofs::Chains::chain), unfolding(crate::specs::Parts::kind_refusal))]
+fn kind_refusal(kind: Kind, wanted: bool) -> Result<(), Refusal>
+    ensures { said result ≡ kind_refusal kind wanted }
 {
     if !kind.is_live() {
-        return 4;
+        return Err(Refusal::NoTicket);
     }
     if !wanted {
-        return 5;
+        return Err(Refusal::WrongKind);
     }
-    0
+    Ok(())
 }
 
-pub fn recall(k: Ticket) -> u16
-    ensures { (t : Tables) (r : Request) → asked t r ≡ k → result ≡ recall_refusal t r }
+#[tactic(auto, unfolding(machine::specs::Recall::recall_refusal, crate::specs::Parts::kind_refusal))]
+pub fn recall(k: Ticket) -> Result<(), Refusal>
+    ensures { (t : Tables) (r : Request) → asked t r ≡ k → said result ≡ recall_refusal t r }
 {
-    let kind = k.kind;
-    kind_refusal(kind, kind.is_recall())
+    kind_refusal(k.kind, k.kind.is_recall())
 }
 
-pub fn give_back(k: Ticket) -> u16
-    ensures { (t : Tables) (r : Request) → asked t r ≡ k → result ≡ give_back_refusal t r }
+#[tactic(auto, unfolding(machine::specs::GiveBack::give_back_refusal, crate::specs::Parts::kind_refusal))]
+pub fn give_back(k: Ticket) -> Result<(), Refusal>
+    ensures { (t : Tables) (r : Request) → asked t r ≡ k → said result ≡ give_back_refusal t r }
 {
-    let kind = k.kind;
-    kind_refusal(kind, kind.is_taken())
+    kind_refusal(k.kind, k.kind.is_taken())
 }
 
-// A read or write, by the pad's own tests: 4, 5, 6, 7 or 0. The dock's check comes after.
-pub fn access_ticket(k: Ticket, first: u16, right: Rights) -> u16
-    ensures { result ≡ access_ticket_refusal right k first }
+// A read or write, by the pad's own tests: 4, 5, 6 or 7. The dock's check comes after.
+#[tactic(auto, using(op_check::proofs::Chains::chain), unfolding(crate::specs::Parts::access_ticket_refusal))]
+pub fn access_ticket(k: Ticket, first: u16, right: Rights) -> Result<(), Refusal>
+    ensures { said result ≡ access_ticket_refusal right k first }
 {
-    let kind = k.kind;
-    if !kind.is_live() {
-        return 4;
+    if !k.kind.is_live() {
+        return Err(Refusal::NoTicket);
     }
-    if kind.is_recall() {
-        return 5;
+    if k.kind.is_recall() {
+        return Err(Refusal::WrongKind);
     }
     if k.count <= first {
-        return 6;
+        return Err(Refusal::Beyond);
     }
-    let held = k.rights;
-    if !held.contains(right) {
-        return 7;
+    if !k.rights.contains(right) {
+        return Err(Refusal::RightLacking);
     }
-    0
+    Ok(())
 }

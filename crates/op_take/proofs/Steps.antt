@@ -1,82 +1,49 @@
 -- A take by the tests that the code makes, one after the other, and what it leaves.
 use Prim.Native.Nat.{ℕ, ◌+◌, ◌≤◌, ◌<◌}
 use native.Mathlib.Omega.{arith}
-use mathlib.Core.Path.{◌≡◌, refl, sym, ap, subst, ◌∙◌}
+use mathlib.Core.Path.{◌≡◌, sym, ap, ◌∙◌}
 use mathlib.Core.Bool.{true, false, not}
 use mathlib.Core.List.{List}
-use borrow.Author.Tests.{not-false, le-leb, lt-leb}
+use borrow.Author.Tests.{not-false}
 use Rattle.rights.specs.Rules.{rights_of}
 use Rattle.tables.specs.declared.{Name.Name, Ticket.Ticket, Entry.Entry, Tables.Tables}
 use Rattle.tables.specs.declared.Kind.TheVariants.{Taken}
 use Rattle.tables.specs.Names.{name_of, no_name, head_ticket, entry_for}
-use Rattle.tables.specs.Lookup.{last_of}
 use Rattle.tables.specs.Sheets.{has_run}
 use Rattle.tables.specs.Change.{has_place, new_name, give, put_entry}
 use Rattle.best_fit.specs.BestFit.{best_fit}
 use Rattle.best_fit.proofs.Laws.{run_there, run_nowhere, best_fits}
-use Rattle.machine.specs.declared.Request.{Request}
+use Rattle.machine.specs.declared.{Request.Request, Refusal.Refusal}
 use Rattle.machine.specs.State.{answer_of, accepted, clear_sheets, state_of}
-use Rattle.machine.specs.Refusal.{◌when◌else◌, is_spent}
+use Rattle.machine.specs.Refusal.{number_of, is_spent}
 use Rattle.machine.specs.Operation.{taking, operation_of}
 use Rattle.machine.specs.Take.{take_refusal, take_tables, after_take}
 use Rattle.machine.specs.Step.{own_refusal, after_own, serve}
 use Rattle.machine.proofs.RefusalLaws.{when_past, when_at_most}
-use Rattle.op_check.proofs.Chains.{here, past}
 use Rattle.op_form.proofs.Numbers.{op_take}
 use Rattle.op_form.proofs.Laws.{take_fields}
-use Rattle.op_refusals.specs.declared.Seat.{Seat}
-use Rattle.op_refusals.specs.Found.{SeatOf}
 use Rattle.op_outcome.specs.Outcomes.{outcome_of, plainly}
 use Rattle.op_outcome.specs.Ready.{Asks}
 use Rattle.op_outcome.proofs.Laws.{served_done, served_refused}
-use Rattle.op_take.specs.declared.Decision.{Decision}
-use Rattle.op_take.specs.Decides.{refused_by, Decides}
 
 some_sheets : (r : Request) → Asks 1 r → 1 ≤ r.count
 some_sheets r asks = (take_fields r asks.early asks.number).count_low
 
--- ---- the tests
-module _ (t : Tables) (r : Request) where
-  refused : (n : ℕ) → (n ≡ 0 → ⊥) → n ≡ take_refusal t r → {d : Decision} → d ≡ refused_by n → Decides t r d
-  refused n ne e f = subst (Decides t r) (sym f) (record { result = e; number = λ z. absurd (ne z); first = λ z. absurd (ne z) })
+-- ---- the run
+module _ (t : Tables) (r : Request) (asks : Asks 1 r) {first : ℕ} (e : first ≡ best_fit t.entries r.count) where
+  pub no_run : 256 ≤ first → has_run t.entries r.count ≡ false
+  no_run h = run_nowhere t.entries r.count (some_sheets r asks) (omega (arith, h, e))
 
-  module _ (p : Seat) (seat : SeatOf t r.pad r.program p) where
-    pub no_place : p.full ≡ true → {d : Decision} → d ≡ refused_by 9 → Decides t r d
-    unfolding take_refusal
-    no_place h = refused 9 (λ z. omega (arith, z)) (here _ (sym seat.full ∙ h))
-
-    module _ (place : p.full ≡ false) where
-      pub spent : 65535 ≤ p.last → {d : Decision} → d ≡ refused_by 10 → Decides t r d
-      unfolding take_refusal is_spent
-      spent h =
-          refused 10 (λ z. omega (arith, z))
-          (past 9 (sym seat.full ∙ place) (here _ (le-leb 65535 (last_of t r.pad r.program) (omega (arith, h, seat.last)))))
-
-      module _ (left : p.last < 65535) where
-        by_run : {n : ℕ} → n ≡ (11 when not (has_run t.entries r.count) else 0) → n ≡ take_refusal t r
-        unfolding take_refusal is_spent
-        by_run e =
-            past 9 (sym seat.full ∙ place)
-            (past 10 (lt-leb 65535 (last_of t r.pad r.program) (omega (arith, left, seat.last))) e)
-
-        module _ (asks : Asks 1 r) {first : ℕ} (e : first ≡ best_fit t.entries r.count) where
-          pub no_run : 256 ≤ first → {d : Decision} → d ≡ refused_by 11 → Decides t r d
-          no_run h = refused 11 (λ z. omega (arith, z)) (by_run (here _ (ap not (run_nowhere t.entries r.count (some_sheets r asks) (omega (arith, h, e))))))
-
-          pub allows : first < 256 → {number : ℕ} → number ≡ p.last + 1 → Decides t r (record { result = 0; number = number; first = first })
-          allows h f = record {
-            result = by_run (past 11 (ap not (run_there t.entries r.count (some_sheets r asks) (omega (arith, h, e)))) refl);
-            number = λ _. omega (arith, f, seat.last);
-            first = λ _. e;
-          }
+  pub a_run : first < 256 → has_run t.entries r.count ≡ true
+  a_run h = run_there t.entries r.count (some_sheets r asks) (omega (arith, h, e))
 
 -- ---- what it leaves
 module _ (t : Tables) (r : Request) where
   -- an accepted take found a run
-  pub run_in_store : Asks 1 r → take_refusal t r ≡ 0 → best_fit t.entries r.count + r.count ≤ 256
+  pub run_in_store : Asks 1 r → 0 ≡ take_refusal t r → best_fit t.entries r.count + r.count ≤ 256
   unfolding take_refusal
   run_in_store asks e =
-      let p₉ = when_past 9 (not (has_place t r.pad r.program)) _ 0 (λ z. omega (arith, z)) e in
+      let p₉ = when_past 9 (not (has_place t r.pad r.program)) _ 0 (λ z. omega (arith, z)) (sym e) in
       let p₁₀ = when_past 10 (is_spent t r.pad r.program) _ 0 (λ z. omega (arith, z)) p₉.1 in
       let p₁₁ = when_past 11 (not (has_run t.entries r.count)) 0 0 (λ z. omega (arith, z)) p₁₀.1 in
       best_fits t.entries r.count (some_sheets r asks) (not-false _ p₁₁.0)
@@ -93,12 +60,12 @@ module _ (t : Tables) (r : Request) where
     op : operation_of r.op ≡ taking
     op = op_take r.op asks.number
 
-    pub served_not : {n : ℕ} → n ≡ take_refusal t r → (n ≡ 0 → ⊥) → outcome_of (plainly n) t store sheet ≡ serve (state_of t store sheet) r
+    pub served_not : (refusal : Refusal) → number_of refusal ≡ take_refusal t r → outcome_of (plainly (number_of refusal)) t store sheet ≡ serve (state_of t store sheet) r
     unfolding own_refusal
-    served_not {n} e ne = served_refused t store sheet r asks.early taking op n (sym e) ne (λ z. not_lost (sym e ∙ z))
+    served_not refusal e = served_refused t store sheet r asks.early taking op refusal e (λ z. not_lost (sym e ∙ z))
 
     -- the ticket and the entry that the code has made
-    pub taken : take_refusal t r ≡ 0 → {number : ℕ} → number ≡ (new_name t r.pad r.program).number
+    pub taken : 0 ≡ take_refusal t r → {number : ℕ} → number ≡ (new_name t r.pad r.program).number
         → {first : ℕ} → first ≡ best_fit t.entries r.count
         → {k : Ticket} → k ≡ head_ticket Taken (name_of r.pad r.program number) first r.count (rights_of r.rights)
         → {none : Name} → none ≡ no_name
@@ -113,4 +80,4 @@ module _ (t : Tables) (r : Request) where
         let e' = entered ∙ (λ i. entry_for (name_of r.pad r.program (m i)) (none i) (f i) r.count rights) in
         let u' = put ∙ (λ i. put_entry ((given ∙ ap (give t r.pad r.program) k') i) (e' i)) in
         let bytes' = cleared ∙ (λ i. clear_sheets (f i) r.count store) in
-        (λ i. outcome_of (answer_of 0 (m i) 0) (u' i) (bytes' i) sheet) ∙ served_done t store sheet r asks.early taking op z
+        (λ i. outcome_of (answer_of 0 (m i) 0) (u' i) (bytes' i) sheet) ∙ served_done t store sheet r asks.early taking op (sym z)

@@ -16,6 +16,6 @@ returns c =
     let at = c.program_at-at.ensures in
     let long = (decoded_sized image).tickets a b (omega (arith, c.requires.1.pad)) (omega (arith, c.requires.1.program)) in
     record {
-      full = is_full (decode image) a b c.requires.1.program _ at long _ c.free_place-place.ensures;
-      last = c.last_at-last.ensures ∙ ap (λ (m : ℕ). get_or (lasts_in image) m 0) at ∙ (flattened image).last a b (omega (arith, c.requires.1.pad)) (omega (arith, c.requires.1.program));
+      full = is_full (decode image) a b c.requires.1.program _ at long _ c.free_place.ensures;
+      last = c.last_at.ensures ∙ ap (λ (m : ℕ). get_or (lasts_in image) m 0) at ∙ (flattened image).last a b (omega (arith, c.requires.1.pad)) (omega (arith, c.requires.1.program));
     }
