@@ -3,7 +3,9 @@ use Prim.Native.Nat.{ℕ, ◌<◌}
 use mathlib.Core.Path.{◌≡◌, refl, ap, subst, ◌∙◌}
 use mathlib.Core.List.{List}
 use lib.ListN.{length, get_or}
-use Rattle.machine.specs.declared.{Request.Request, Answer.Answer}
+use Rattle.machine.specs.declared.{Request.Request, Answer.Answer, Refusal.Refusal}
+use Rattle.machine.specs.Refusal.{number_of}
+use Rattle.machine.proofs.RefusalLaws.{never_zero}
 use Rattle.machine.specs.State.{Outcome, answer_of, state_of}
 use Rattle.machine.specs.Step.{serve}
 use Rattle.image.specs.Image.{decode}
@@ -14,16 +16,16 @@ use Rattle.lending.proofs.Served.{is_served}
 use Rattle.lending.proofs.Kept.{image_kept}
 
 module _ (tables store sheet : List ℕ) (r : Request) where
-  pub as_refused : {n : ℕ} → n ≡ lent_refusal tables (length store) (length sheet) → (n ≡ 0 → ⊥) → {a : Answer} → a ≡ answer_of n 0 0
-      → StepsLent tables store sheet r a tables store sheet
-  as_refused e ne plain =
-      let is = is_refused tables store sheet r e ne in
+  pub as_refused : (refusal : Refusal) → number_of refusal ≡ lent_refusal tables (length store) (length sheet)
+      → {a : Answer} → a ≡ answer_of (number_of refusal) 0 0 → StepsLent tables store sheet r a tables store sheet
+  as_refused refusal e plain =
+      let is = is_refused tables store sheet r e (never_zero refusal) in
       record {
         answer = plain ∙ λ i. (is i).answer;
         tables = λ i. (is i).tables;
         store = λ i. (is i).store;
         sheet = λ i. (is i).sheet;
-        decoded = λ none. absurd (ne (e ∙ none));
+        decoded = λ none. absurd (never_zero refusal (e ∙ none));
         as_before = λ x y. refl;
       }
 

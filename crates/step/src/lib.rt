@@ -4,63 +4,61 @@
 #![tactic(auto)]
 
 ghost use Rattle.std.specs.Prelude.{◌≡◌};
+ghost use Rattle.machine.specs.Refusal.{said};
 ghost use Rattle.lending.specs.Host.{EmptiesImage, order_of, check_image, lent_refusal, StepsLent};
 
 use image::IMAGE;
-use machine::{Answer, Request};
+use machine::{Answer, Refusal, Request};
 use op_sheets::{SHEET, STORE};
 use tables::Name;
 
 // Tables without tickets or entries, which are zeros, and a store of zeros; with a store of another length 13, empty tables and the store
 // untouched; with an image of another length 13, and nothing changes.
-pub fn empty(tables: &mut [u8], store: &mut [u8]) -> u16
-    ensures { EmptiesImage tables.old store.old result tables.new store.new }
+pub fn empty(tables: &mut [u8], store: &mut [u8]) -> Result<(), Refusal>
+    ensures { EmptiesImage tables.old store.old (said result) tables.new store.new }
 {
     if tables.len() != IMAGE {
-        return 13;
+        return Err(Refusal::Length);
     }
-    op_sheets::clear(tables);
+    tables.fill(0);
     if store.len() != STORE {
-        return 13;
+        return Err(Refusal::Length);
     }
-    op_sheets::clear(store);
-    0
+    store.fill(0);
+    Ok(())
 }
 
-// 13 another length than an image has, 14 no tables or tables that are not in order, or 0.
-pub fn in_order(tables: &[u8]) -> u16
-    ensures { result ≡ order_of tables.now }
+// 13 another length than an image has, 14 no tables or tables that are not in order.
+#[tactic(auto, using(op_check::proofs::Chains::chain), unfolding(lending::specs::Host::order_of, lending::specs::Batch::tables_ok))]
+pub fn in_order(tables: &[u8]) -> Result<(), Refusal>
+    ensures { said result ≡ order_of tables.now }
 {
     if tables.len() != IMAGE {
-        return 13;
+        return Err(Refusal::Length);
     }
     if !order::image_in_order(tables) {
-        return 14;
+        return Err(Refusal::NotInOrder);
     }
-    0
+    Ok(())
 }
 
-// The dock's own check: 13, 14, 3, 12, 6, 7 or 0.
-pub fn check(tables: &[u8], n: Name, sheet: u16, right: u16) -> u16
-    ensures { result ≡ check_image tables.now n.pad n.program n.number sheet right }
+// The dock's own check: 13, 14, 3, 12, 6 or 7.
+#[tactic(auto, using(crate::proofs::Checking::check_parts))]
+pub fn check(tables: &[u8], n: Name, sheet: u16, right: u16) -> Result<(), Refusal>
+    ensures { said result ≡ check_image tables.now n.pad n.program n.number sheet right }
 {
-    let refusal = in_order(tables);
-    if refusal != 0 {
-        return refusal;
-    }
+    in_order(tables)?;
     let e = image_find::entry(tables, n);
-    op_check::check(e, sheet as usize, right)
+    op_check::check(e, usize::from(sheet), right)
 }
 
-// What comes before every request: 13, 14 or 0, from the image and the lengths of store and sheet buffer.
-pub fn refusal(tables: &[u8], store: usize, sheet: usize) -> u16
-    ensures { result ≡ lent_refusal tables.now store sheet }
+// What comes before every request: 13 or 14, from the image and the lengths of store and sheet buffer.
+#[tactic(auto, using(op_check::proofs::Chains::chain), unfolding(lending::specs::Host::order_of, lending::specs::Host::lent_refusal, lending::specs::Batch::tables_ok))]
+pub fn refusal(tables: &[u8], store: usize, sheet: usize) -> Result<(), Refusal>
+    ensures { said result ≡ lent_refusal tables.now store sheet }
 {
-    if store != STORE {
-        return 13;
-    }
-    if sheet != SHEET {
-        return 13;
+    if store != STORE || sheet != SHEET {
+        return Err(Refusal::Length);
     }
     in_order(tables)
 }
@@ -69,9 +67,8 @@ pub fn refusal(tables: &[u8], store: usize, sheet: usize) -> u16
 pub fn step(tables: &mut [u8], store: &mut [u8], sheet: &mut [u8], r: Request) -> Answer
     ensures { StepsLent tables.old store.old sheet.old r result tables.new store.new sheet.new }
 {
-    let early = refusal(tables, store.len(), sheet.len());
-    if early != 0 {
-        return op_outcome::plain(early);
+    if let Err(refusal) = refusal(tables, store.len(), sheet.len()) {
+        return Answer::refused(refusal);
     }
     op_serve::request(tables, store, sheet, r)
 }
