@@ -1,15 +1,13 @@
 -- What the batch leaves where it is refused, and where all of it was served.
-use Prim.Native.Nat.{ℕ, ◌*◌, ◌/◌, ◌%◌}
+use Prim.Native.Nat.{ℕ}
 use native.Mathlib.Omega.{arith}
 use mathlib.Core.Path.{◌≡◌, sym, ap, ◌∙◌}
 use mathlib.Core.Bool.{Bool, true, false, not, ◌&&◌}
 use mathlib.Core.List.{List}
-use lib.Dec.{eqb}
 use lib.ListN.{length}
-use borrow.Author.Tests.{eqb-true, eqb-false, eq-eqb, ne_eqb}
-use Rattle.lists.proofs.Tests.{Case, pass, fail, case, and_l, and_r, passed, failed}
+use borrow.Author.Tests.{ne_eqb}
+use Rattle.lists.proofs.Tests.{and_l, and_r, passed, failed}
 use Rattle.tables.specs.Order.{in_order}
-use Rattle.machine.specs.Numbers.{answer_width}
 use Rattle.machine.specs.Refusal.{◌when◌else◌}
 use Rattle.image.specs.Layout.{image_size}
 use Rattle.image.specs.Image.{decode, is_image}
@@ -28,14 +26,6 @@ whole b h =
 pub image_whole : (b : Buffers) → buffers_fit b ≡ true → length b.tables ≡ image_size
 image_whole b h =
     (fit (length b.tables) (length b.store) (length b.sheets) (length b.requests) (length b.answers) h).tables
-
--- numbers of whole answers are so many answers
-pub whole_answers : (answers n : ℕ) → answers % answer_width ≡ 0 → eqb (answers / answer_width) n ≡ eqb answers (answer_width * n)
-whole_answers answers n h = go (case (eqb answers (answer_width * n)))
-  where
-    go : Case (eqb answers (answer_width * n)) → eqb (answers / answer_width) n ≡ eqb answers (answer_width * n)
-    go (pass e) = let q = eqb-true answers (answer_width * n) e in rw (e, eq-eqb (answers / answer_width) n (omega (arith, q)))
-    go (fail e) = rw (e, ne_eqb (answers / answer_width) n (λ q. eqb-false answers (answer_width * n) e (omega (arith, q, h))))
 
 -- ---- a batch that is refused
 is_refused : (b : Buffers) (n : ℕ) → batch_refusal b ≡ n → (n ≡ 0 → ⊥) → untouched b n ≡ batch b

@@ -1,5 +1,5 @@
 -- A batch request by request: what holds before the i-th, that it holds before the next, and what it comes to at the end.
-use Prim.Native.Nat.{ℕ, zero, suc, ◌+◌, ◌*◌, ◌≤◌, ◌<◌}
+use Prim.Native.Nat.{ℕ, zero, suc, ◌+◌, ◌*◌, ◌<◌}
 use native.Mathlib.Numerals.{add-one}
 use native.Mathlib.Omega.{arith}
 use mathlib.Core.Path.{◌≡◌, refl, sym, ap, subst, ◌∙◌}
@@ -32,8 +32,7 @@ sheet_part b i = (outcome_at b i).state.sheet
 abbrev pub answer_part : Start → ℕ → List ℕ
 answer_part b i = answer_numbers (outcome_at b i).answer
 
-pub record Going (b : Start) (n : ℕ) (room : List ℕ) (i : ℕ) (image store' sheets' answers' : List ℕ) : Type 0 where
-  pub inside : i ≤ n
+pub record Going (b : Start) (room : List ℕ) (i : ℕ) (image store' sheets' answers' : List ℕ) : Type 0 where
   pub tables : image ≡ encode (met b i).tables
   pub decoded : decode image ≡ (met b i).tables
   pub store : store' ≡ (met b i).store
@@ -42,11 +41,10 @@ pub record Going (b : Start) (n : ℕ) (room : List ℕ) (i : ℕ) (image store'
   pub answers : Written answer_width (answer_part b) room i answers'
   pub order : in_order (decode image) ≡ true
 
-pub begins : (image store sheets requests : List ℕ) (n : ℕ) (room : List ℕ) → ((j : ℕ) → get_or image j 0 < 256) → is_image image ≡ true
-    → length store ≡ 16384 → in_order (decode image) ≡ true → Going (start_with (decode image) store sheets requests) n room 0 image store sheets room
+pub begins : (image store sheets requests room : List ℕ) → ((j : ℕ) → get_or image j 0 < 256) → is_image image ≡ true
+    → length store ≡ 16384 → in_order (decode image) ≡ true → Going (start_with (decode image) store sheets requests) room 0 image store sheets room
 unfolding met
-begins image store sheets requests n room small is long order = record {
-  inside = omega arith;
+begins image store sheets requests room small is long order = record {
   tables = sym (encode_decode image small is);
   decoded = refl;
   store = refl;
@@ -61,21 +59,19 @@ unfolding met
 met_sheet b zero = refl
 met_sheet b (suc i) = refl
 
-module _ (b : Start) (n : ℕ) (room : List ℕ) (i : ℕ) (image store sheets answers : List ℕ) (g : Going b n room i image store sheets answers) where
+module _ (b : Start) (room : List ℕ) (i : ℕ) (image store sheets answers : List ℕ) (g : Going b room i image store sheets answers) where
   -- it stays an image
   pub still_image : is_image image ≡ true
   still_image = ap is_image g.tables ∙ encode_is_image (met b i).tables
 
-  pub ends : n ≤ i → length b.sheets ≡ 64 * n → length room ≡ answer_width * n → AllServed b n image store sheets answers
-  ends h a c =
-      let e : i ≡ n = omega (arith, g.inside) in
-      record {
-        tables = g.tables ∙ ap (λ (m : ℕ). encode (met b m).tables) e;
-        decoded = g.decoded ∙ ap (λ (m : ℕ). (met b m).tables) e;
-        store = g.store ∙ ap (λ (m : ℕ). (met b m).store) e;
-        sheets = written_all 64 (sheet_part b) b.sheets i sheets g.sheets n e a;
-        answers = written_all answer_width (answer_part b) room i answers g.answers n e c;
-      }
+  pub ends : (n : ℕ) → i ≡ n → length b.sheets ≡ 64 * n → length room ≡ answer_width * n → AllServed b n image store sheets answers
+  ends n e a c = record {
+    tables = g.tables ∙ ap (λ (m : ℕ). encode (met b m).tables) e;
+    decoded = g.decoded ∙ ap (λ (m : ℕ). (met b m).tables) e;
+    store = g.store ∙ ap (λ (m : ℕ). (met b m).store) e;
+    sheets = written_all 64 (sheet_part b) b.sheets i sheets g.sheets n e a;
+    answers = written_all answer_width (answer_part b) room i answers g.answers n e c;
+  }
 
   -- what is lent for the i-th request's sheet is its sheet
   pub lent_sheet : (k : ℕ) → k ≡ 64 → take k (drop (64 * i) sheets) ≡ sheet_at i b.sheets
@@ -103,13 +99,12 @@ module _ (b : Start) (n : ℕ) (room : List ℕ) (i : ℕ) (image store sheets a
         ap (λ (s : State). in_order s.tables) (sym left)
         ∙ step_keeps_order (met b i) (request_at i b.requests) (subst Sized g.decoded (decoded_sized image)) (ap in_order (sym g.decoded) ∙ g.order)
 
-    pub next : (k' : ℕ) (answer' : List ℕ) → length store' ≡ 16384 → length sheet' ≡ 64 → i < n → length b.sheets ≡ 64 * n
+    pub next : (n k' : ℕ) (answer' : List ℕ) → length store' ≡ 16384 → length sheet' ≡ 64 → i < n → length b.sheets ≡ 64 * n
         → length room ≡ answer_width * n → k' ≡ answer_width → answer' ≡ answer_numbers a
-        → Going b n room (i + 1) image' store' (put_mid (64 * i) k sheets sheet') (put_mid (answer_width * i) k' answers answer')
-    next k' answer' long kept more x y all put =
+        → Going b room (i + 1) image' store' (put_mid (64 * i) k sheets sheet') (put_mid (answer_width * i) k' answers answer')
+    next n k' answer' long kept more x y all put =
         let read : decode image' ≡ (met b (i + 1)).tables = here.decoded ∙ ap (λ (s : State). s.tables) left in
         record {
-          inside = omega arith;
           tables = here.tables ∙ ap (λ (s : State). encode s.tables) left;
           decoded = read;
           store = here.store ∙ ap (λ (s : State). s.store) left;

@@ -1,5 +1,4 @@
 -- Before each request `Going` holds.
-use Prim.Native.Nat.{◌-◌}
 use Rattle.image.specs.Image.{decode}
 use Rattle.lending.specs.Sequence.{start_with}
 use Rattle.batch.proofs.Steps.{Going}
@@ -7,7 +6,4 @@ use Rattle.batch.proofs.serve_all.Given as goal
 
 abbrev pub invariant-loop-i : goal.invariant-loop-i
 invariant-loop-i l =
-    Going (start_with (decode l.initial.tables) l.initial.store l.initial.sheets l.requests) l.n l.initial.answers l.i l.tables l.store l.sheets l.answers
-
-abbrev pub decreases-loop-i : goal.decreases-loop-i
-decreases-loop-i l = l.n - l.i
+    Going (start_with (decode l.initial.tables) l.initial.store l.initial.sheets l.requests) l.initial.answers l.i l.tables l.store l.sheets l.answers
