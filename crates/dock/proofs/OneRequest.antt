@@ -8,10 +8,11 @@ use lib.Dec.{eqb}
 use lib.ListN.{length, get_or}
 use borrow.Author.Tests.{eq-eqb, ne_eqb}
 use Rattle.lists.proofs.Tests.{and_false}
-use Rattle.machine.specs.declared.{Request.Request, Answer.Answer}
+use Rattle.machine.specs.declared.{Request.Request, Answer.Answer, Refusal.Refusal}
 use Rattle.machine.specs.State.{Outcome, state_of}
 use Rattle.machine.specs.Numbers.{request_width, request_of, answer_width, answer_numbers}
-use Rattle.machine.specs.Refusal.{◌when◌else◌}
+use Rattle.machine.specs.Refusal.{◌when◌else◌, number_of}
+use Rattle.machine.proofs.RefusalLaws.{never_zero}
 use Rattle.machine.specs.Step.{serve}
 use Rattle.image.specs.Layout.{image_size}
 use Rattle.image.specs.Image.{decode}
@@ -42,14 +43,15 @@ module _ (b : Buffers) where
       }
 
   -- ---- numbers of another request, or room for another answer
-  pub other_request : (length b.requests ≡ request_width → ⊥) → Steps b 13 b.tables b.store b.sheets b.answers
-  unfolding step_refusal ◌when◌else◌
-  other_request h = refused (rw (ne_eqb (length b.requests) request_width h, and_false three)) (λ z. omega arith)
+  module _ {n : ℕ} (thirteen : n ≡ 13) where
+    pub other_request : (length b.requests ≡ request_width → ⊥) → Steps b n b.tables b.store b.sheets b.answers
+    unfolding step_refusal ◌when◌else◌
+    other_request h = refused (thirteen ∙ rw (ne_eqb (length b.requests) request_width h, and_false three)) (λ z. omega arith)
 
-  pub other_answer : (length b.answers ≡ answer_width → ⊥) → Steps b 13 b.tables b.store b.sheets b.answers
-  unfolding step_refusal ◌when◌else◌
-  other_answer h =
-      refused (rw (ne_eqb (length b.answers) answer_width h, and_false (three && eqb (length b.requests) request_width))) (λ z. omega arith)
+    pub other_answer : (length b.answers ≡ answer_width → ⊥) → Steps b n b.tables b.store b.sheets b.answers
+    unfolding step_refusal ◌when◌else◌
+    other_answer h =
+        refused (thirteen ∙ rw (ne_eqb (length b.answers) answer_width h, and_false (three && eqb (length b.requests) request_width))) (λ z. omega arith)
 
   module _ (nine : length b.requests ≡ request_width) (room : length b.answers ≡ answer_width) where
     and_true : (x : Bool) → (x && true) ≡ x
@@ -66,31 +68,31 @@ module _ (b : Buffers) where
           and_true three,
         )
 
-    pub before_it : {n : ℕ} → n ≡ lent_refusal b.tables (length b.store) (length b.sheets) → (n ≡ 0 → ⊥)
+    pub before_it : (refusal : Refusal) → number_of refusal ≡ lent_refusal b.tables (length b.store) (length b.sheets) → {n : ℕ} → n ≡ number_of refusal
         → Steps b n b.tables b.store b.sheets b.answers
-    before_it e ne = refused (e ∙ same_refusal) ne
+    before_it refusal e is = refused (is ∙ e ∙ same_refusal) (λ z. never_zero refusal (sym is ∙ z))
 
     -- ---- served
-    module _ (none : lent_refusal b.tables (length b.store) (length b.sheets) ≡ 0) (r : Request) (read : r ≡ request_of b.requests) (a : Answer)
+    module _ (none : 0 ≡ lent_refusal b.tables (length b.store) (length b.sheets)) (r : Request) (read : r ≡ request_of b.requests) (a : Answer)
         (tables' store' sheet' : List ℕ) (left : LeavesLent (serve (state_of (decode b.tables) b.store b.sheets) r) a tables' store' sheet') where
       stepped : LeavesLent (step_outcome b) a tables' store' sheet'
       unfolding step_outcome
       stepped =
-          let whole = not_refused b.tables (length b.store) (length b.sheets) none in
+          let whole = not_refused b.tables (length b.store) (length b.sheets) (sym none) in
           subst (λ (o : Outcome). LeavesLent o a tables' store' sheet')
           (ap (serve (state_of (decode b.tables) b.store b.sheets)) read
           ∙ is_served (decode b.tables) b.store b.sheets (request_of b.requests) whole.store_long whole.sheet_long
           (tables_order b.tables whole.tables)) left
 
       is_step : left_by (step_outcome b) ≡ step_image b
-      is_step = sym (step_served b (sym same_refusal ∙ none))
+      is_step = sym (step_served b (sym (none ∙ same_refusal)))
 
       pub served : ((i : ℕ) → get_or b.tables i 0 < 256) → {answer' : List ℕ} → answer' ≡ answer_numbers a → Steps b a.result tables' store' sheet' answer'
       unfolding left_by step_outcome
       served small put =
           let is = is_step in
           let result : a.result ≡ (step_outcome b).answer.result = ap (λ (x : Answer). x.result) stepped.answer in
-          let whole = not_refused b.tables (length b.store) (length b.sheets) none in
+          let whole = not_refused b.tables (length b.store) (length b.sheets) (sym none) in
           record {
             result = result ∙ λ i. (is i).result;
             tables = stepped.tables ∙ λ i. (is i).tables;

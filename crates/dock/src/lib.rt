@@ -13,6 +13,7 @@ ghost use Rattle.lending.specs.Host.{EmptiesImage, Steps, order_of, check_image}
 ghost use Rattle.dock.specs.Version.{version};
 
 use image::IMAGE;
+use machine::Refusal;
 use op_form::{ANSWER, REQUEST};
 use tables::Name;
 
@@ -40,7 +41,7 @@ pub extern "C" fn dock_tables_length() -> usize
 pub extern "C" fn dock_empty(tables: &mut [u8], store: &mut [u8]) -> u16
     ensures { EmptiesImage tables.old store.old result tables.new store.new }
 {
-    step::empty(tables, store)
+    machine::number(step::empty(tables, store))
 }
 
 // One request. The answer's first number, its result, comes back too.
@@ -54,15 +55,11 @@ pub extern "C" fn dock_step(
 ) -> u16
     ensures { Steps (buffers_of tables.old store.old sheet.old request.now answer.old) result tables.new store.new sheet.new answer.new }
 {
-    if request.len() != REQUEST {
-        return 13;
+    if request.len() != REQUEST || answer.len() != ANSWER {
+        return Refusal::Length.into();
     }
-    if answer.len() != ANSWER {
-        return 13;
-    }
-    let early = step::refusal(tables, store.len(), sheet.len());
-    if early != 0 {
-        return early;
+    if let Err(refusal) = step::refusal(tables, store.len(), sheet.len()) {
+        return refusal.into();
     }
     let a = op_serve::request(tables, store, sheet, op_form::request_in(request));
     batch::put_answer(answer, a);
@@ -80,7 +77,7 @@ pub extern "C" fn dock_serve(
 ) -> u16
     ensures { Leaves (buffers_of tables.old store.old sheets.old requests.now answers.old) result tables.new store.new sheets.new answers.new }
 {
-    batch::serve(tables, store, sheets, requests, answers)
+    machine::number(batch::serve(tables, store, sheets, requests, answers))
 }
 
 // The dock's own check.
@@ -96,11 +93,11 @@ pub extern "C" fn dock_check(
     ensures { result ≡ check_image tables.now pad program number sheet right }
 {
     let n = Name {
-        pad: pad,
-        program: program,
-        number: number,
+        pad,
+        program,
+        number,
     };
-    step::check(tables, n, sheet, right)
+    machine::number(step::check(tables, n, sheet, right))
 }
 
 // Are the tables in order? 0, 13 or 14.
@@ -108,7 +105,7 @@ pub extern "C" fn dock_check(
 pub extern "C" fn dock_in_order(tables: &[u8]) -> u16
     ensures { result ≡ order_of tables.now }
 {
-    step::in_order(tables)
+    machine::number(step::in_order(tables))
 }
 
 // The trace of a text of requests. Its length, 0 with a refusal, goes to `length`.
