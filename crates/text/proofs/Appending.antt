@@ -1,6 +1,6 @@
 -- Laws of appending: nothing, two texts one behind the other, a text written into the lent rest of an output; and a text that is measured
 -- and then written, or refused.
-use Prim.Native.Nat.{ℕ, ◌+◌, ◌-◌, ◌≤◌, ◌<◌}
+use Prim.Native.Nat.{ℕ, ◌+◌, ◌-◌, ◌≤◌, ◌<◌, min}
 use native.Mathlib.Omega.{arith}
 use mathlib.Core.Path.{◌≡◌, refl, sym, ap, subst, ◌∙◌}
 use mathlib.Core.Bool.{true, false}
@@ -8,7 +8,7 @@ use mathlib.Core.List.{List, [], ◌++◌, append_assoc, append-nil}
 use lib.Dec.{leb}
 use lib.ListN.{length, take, drop, length-append, length-drop, take-append-drop}
 use lib.Seq.{length-take-le, drop-length, take_at, drop_at, drop-drop}
-use borrow.Author.Tests.{le-leb, lt-leb, leb-true, leb-false}
+use borrow.Author.Tests.{leb-true, leb-false}
 use borrow.Rule.Slice.PartMut.{put_mid, same_len_mid, Post-is}
 use Rattle.lists.proofs.Tests.{Case, pass, fail, case}
 use Rattle.lists.proofs.Front.{rest_part}
@@ -117,26 +117,10 @@ module _ (text before : List ℕ) where
   refuse_tested e = writes_none text before (leb-false (length text) (length before) e)
 
 -- ---- counted lengths
-module _ (n : ℕ) where
-  pub counted_all : n ≤ highest_count → counted n ≡ n
-  unfolding counted
-  counted_all h = rw (le-leb n highest_count h)
-
-  pub counted_most : highest_count < n → counted n ≡ highest_count
-  unfolding counted
-  counted_most h = rw (lt-leb n highest_count h)
-
-  -- room for what was counted is room for all, and the other way round
-  pub counted_room : (room : ℕ) → room < highest_count → counted n ≤ room → n ≤ room
-  counted_room room below h = go (case (leb n highest_count))
-    where
-      go : Case (leb n highest_count) → n ≤ room
-      go (pass e) = omega (arith, counted_all (leb-true n highest_count e))
-      go (fail e) = omega (arith, counted_most (leb-false n highest_count e))
-
-  pub counted_beyond : (room : ℕ) → room < counted n → room < n
-  counted_beyond room h = go (case (leb n highest_count))
-    where
-      go : Case (leb n highest_count) → room < n
-      go (pass e) = omega (arith, counted_all (leb-true n highest_count e))
-      go (fail e) = omega (arith, counted_most (leb-false n highest_count e), leb-false n highest_count e)
+pub counted_min : (n : ℕ) → counted n ≡ min n highest_count
+unfolding counted
+counted_min n = go (case (leb n highest_count))
+  where
+    go : Case (leb n highest_count) → counted n ≡ min n highest_count
+    go (pass e) = rw e (omega (arith, leb-true n highest_count e))
+    go (fail e) = rw e (omega (arith, leb-false n highest_count e))

@@ -1,61 +1,55 @@
 -- Two texts compared byte for byte; and a text's first line, found by the byte that ends it.
-use Prim.Native.Nat.{ℕ, suc, ◌+◌, ◌≤◌, ◌<◌}
-use native.Mathlib.Numerals.{add-one}
+use Prim.Native.Nat.{ℕ, suc, ◌+◌}
 use native.Mathlib.Omega.{arith}
-use mathlib.Core.Path.{◌≡◌, refl, sym, ap, ◌∙◌}
-use mathlib.Core.Bool.{Bool, true, false, ◌&&◌}
+use mathlib.Core.Path.{◌≡◌, refl, ap, ◌∙◌}
+use mathlib.Core.Bool.{true, false, cond}
 use mathlib.Core.List.{List, [], ◌∷◌}
+use Rattle.std.specs.Cmp.Lexicographic.{pointwise}
+use Rattle.std.specs.Prelude.{Some, None}
 use lib.Dec.{eqb}
-use lib.ListN.{length, get_or, take, drop, drop_of_length-le}
-use lib.Seq.{drop-cons}
-use borrow.Author.Tests.{eq-eqb, ne_eqb}
-use Rattle.lists.proofs.Tests.{and_false}
+use lib.ListN.{length, take, drop, drop_of_length-le}
+use borrow.Author.Tests.{eqb-true, eqb-false}
+use Rattle.lists.proofs.Tests.{Case, pass, fail, case}
 use Rattle.text.specs.Bytes.{line_end, same_bytes}
 use Rattle.text.specs.Reading.{cut, lines}
 use Rattle.text.specs.Names.{named, behind_names, first_line_of}
 use Rattle.text.proofs.ReadingLaws.{up_to, lines_first}
 
-pub other_length : (a b : List ℕ) → (length a ≡ length b → ⊥) → false ≡ same_bytes a b
+-- what `==` of two slices answers
+pub same_pointwise : (a b : List ℕ) → pointwise eqb a b ≡ same_bytes a b
 unfolding same_bytes
-other_length [] [] h = absurd (h refl)
-other_length [] (y ∷ b) h = refl
-other_length (x ∷ a) [] h = refl
-other_length (x ∷ a) (y ∷ b) h = rw (← other_length a b (λ e. h (ap suc e)), and_false)
-
-module _ (a b : List ℕ) (i : ℕ) (in-a : i < length a) (long : length b ≡ length a) where
-  step : same_bytes (drop i a) (drop i b) ≡ (eqb (get_or a i 0) (get_or b i 0) && same_bytes (drop (i + 1) a) (drop (i + 1) b))
-  unfolding same_bytes
-  step = rw (add-one, drop-cons a i 0 in-a, drop-cons b i 0 (omega arith))
-
-  pub differ_here : (get_or a i 0 ≡ get_or b i 0 → ⊥) → same_bytes a b ≡ same_bytes (drop i a) (drop i b) → false ≡ same_bytes a b
-  differ_here ne e = rw (e, step, ne_eqb _ _ ne)
-
-  pub same_from : get_or a i 0 ≡ get_or b i 0 → same_bytes a b ≡ same_bytes (drop i a) (drop i b)
-      → same_bytes a b ≡ same_bytes (drop (i + 1) a) (drop (i + 1) b)
-  same_from eq e = e ∙ step ∙ rw (eq-eqb _ _ eq)
-
-pub same_end : (a b : List ℕ) (i : ℕ) → length a ≤ i → length b ≡ length a → same_bytes a b ≡ same_bytes (drop i a) (drop i b)
-    → true ≡ same_bytes a b
-unfolding same_bytes
-same_end a b i out long e = rw (e, drop_of_length-le a out, drop_of_length-le b {i = i} (omega arith))
+same_pointwise [] [] = refl
+same_pointwise [] (y ∷ b) = refl
+same_pointwise (x ∷ a) [] = refl
+same_pointwise (x ∷ a) (y ∷ b) = rw (same_pointwise a b)
 
 -- ---- the first line
-empty_named : (names text : List ℕ) → length text ≡ 0 → false ≡ named names (lines text)
-unfolding named lines cut
-empty_named names [] h = refl
-empty_named names (x ∷ xs) h = absurd (omega arith)
+module _ (names text : List ℕ) where
+  pub no_first : eqb (length text) 0 ≡ true → None ≡ first_line_of names text
+  unfolding first_line_of named lines cut
+  no_first h = rw (drop_of_length-le text {i = 0} (omega (arith, eqb-true _ _ h)))
 
-module _ (names text : List ℕ) (end : ℕ) (ends : end ≡ up_to line_end text) where
-  pub no_first : length text ≡ 0 → record { ok = false; end = end } ≡ first_line_of names text
+  pub first_is : (end : ℕ) → end ≡ up_to line_end text → eqb (length text) 0 ≡ false
+      → first_line_of names text ≡ cond (same_bytes (take end text) names) (Some end) None
   unfolding first_line_of named
-  no_first h i = record { ok = empty_named names text h i; end = ends i }
+  first_is end ends h = rw (ends, lines_first text (omega (arith, eqb-false _ _ h)))
 
-  pub is_first : (ok : Bool) → 0 < length text → ok ≡ same_bytes (take end text) names → record { ok = ok; end = end } ≡ first_line_of names text
-  unfolding first_line_of named
-  is_first ok h e =
-      let same : ok ≡ named names (lines text)
-      = e ∙ ap (λ (n : ℕ). same_bytes (take n text) names) ends ∙ sym (ap (named names) (lines_first text h)) in
-      λ i. record { ok = same i; end = ends i }
+  -- what it tells of the text
+  pub other_first : None ≡ first_line_of names text → named names (lines text) ≡ false
+  unfolding first_line_of
+  other_first e = go (case (named names (lines text)))
+    where
+      go : Case (named names (lines text)) → named names (lines text) ≡ false
+      go (pass t) = let q = rw t at e in cc
+      go (fail f) = f
+
+  pub first_named : (end : ℕ) → Some end ≡ first_line_of names text → (named names (lines text) ≡ true) × (end ≡ up_to line_end text)
+  unfolding first_line_of
+  first_named end e = go (case (named names (lines text)))
+    where
+      go : Case (named names (lines text)) → (named names (lines text) ≡ true) × (end ≡ up_to line_end text)
+      go (pass t) = let q = rw t at e in (t, cc)
+      go (fail f) = let q = rw f at e in cc
 
 -- behind it stand the later lines
 behind_first : (text : List ℕ) → behind_names (lines text) ≡ lines (drop (suc (up_to line_end text)) text)

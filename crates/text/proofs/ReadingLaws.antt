@@ -4,12 +4,15 @@ use native.Mathlib.Nat.{le_of_suc-le-suc, not-suc-le-zero, suc_inj}
 use native.Mathlib.Numerals.{add-one}
 use native.Mathlib.Omega.{arith}
 use mathlib.Core.Path.{◌≡◌, refl, sym, ap, ◌∙◌}
-use mathlib.Core.Bool.{true, false, ◌&&◌}
+use mathlib.Core.Bool.{Bool, true, false, cond, ◌&&◌}
 use mathlib.Core.List.{List, [], ◌∷◌}
-use lib.Dec.{leb, eqb}
+use Rattle.std.specs.Prelude.{Option, position, unwrap_or}
+use Rattle.std.specs.List.{position_or_len}
+use Rattle.std.proofs.lemmas.List.Recursion.{is_position_or_len}
+use lib.Dec.{leb, ltb, eqb}
 use lib.ListN.{length, take, drop, drop_of_length-le}
 use lib.Seq.{length-take-le, take_all}
-use borrow.Author.Tests.{eq-eqb, ne_eqb, leb-true, leb-false, eqb-true}
+use borrow.Author.Tests.{eq-eqb, ne_eqb, leb-true, leb-false, ltb-false, eqb-true}
 use Rattle.lists.specs.Lists.{all, first_index}
 use Rattle.lists.proofs.Tests.{Case, pass, fail, case, and_false, both_ways}
 use Rattle.lists.proofs.Search.{first_here, first_later, first_within}
@@ -20,6 +23,23 @@ use Rattle.text.specs.Reading.{in_front, cut, lines, fields, number, is_value, h
 -- where the first byte `b` stands, or the length
 abbrev pub up_to : ℕ → List ℕ → ℕ
 up_to b l = first_index (λ x. eqb x b) l
+
+-- the place that std's search tells, or else the length, is the first that passes
+pub place_or_length : (test : ℕ → Bool) (l : List ℕ) (place : Option ℕ) → place ≡ position test l
+    → unwrap_or place (length l) ≡ first_index test l
+unfolding first_index
+place_or_length test l place told = go (case (ltb (position_or_len test l) (length l)))
+  where
+    first_is : first_index test l ≡ position_or_len test l
+    first_is = is_position_or_len (first_index test) test refl (λ x xs. ap (λ (n : ℕ). cond (test x) 0 n) (omega arith)) l
+
+    go : Case (ltb (position_or_len test l) (length l)) → unwrap_or place (length l) ≡ first_index test l
+    go (pass e) = rw (told, e, first_is)
+    go (fail e) = rw (told, e) (omega (arith, first_is, ltb-false _ _ e, first_within test l))
+
+-- what stands in front of it
+pub part_long : (b : ℕ) (l : List ℕ) (end : ℕ) → end ≡ up_to b l → end ≡ length (take end l)
+part_long b l end e = sym (length-take-le end l (omega (arith, e, first_within (λ x. eqb x b) l)))
 
 module _ (b : ℕ) where
   up_to_here : (x : ℕ) (xs : List ℕ) → eqb x b ≡ true → up_to b (x ∷ xs) ≡ 0

@@ -1,5 +1,5 @@
 -- Laws of a line of values: its length, and an output into which it is written value by value.
-use Prim.Native.Nat.{ℕ, suc, ◌+◌, ◌-◌, ◌≤◌, ◌<◌}
+use Prim.Native.Nat.{ℕ, suc, ◌+◌, ◌-◌, ◌≤◌, ◌<◌, min}
 use native.Mathlib.Numerals.{add-one}
 use native.Mathlib.Omega.{arith}
 use mathlib.Core.Path.{◌≡◌, refl, sym, ap, ◌∙◌}
@@ -11,7 +11,9 @@ use lib.Seq.{drop-cons, drop-length, append_snoc, take-length, take_at, drop_at,
 use borrow.Author.Tests.{ne_eqb}
 use borrow.Rule.Slice.PartMut.{put_mid}
 use Rattle.text.specs.Writing.{places, decimal, behind, values_line, Writes}
+use Rattle.text.specs.Appending.{highest_count, counted}
 use Rattle.text.proofs.WritingLaws.{writes_fits, length_decimal}
+use Rattle.text.proofs.Appending.{counted_min}
 
 pub line_none : values_line [] ≡ []
 unfolding values_line
@@ -35,15 +37,23 @@ unfolding behind
 behind_test [] = refl
 behind_test (v ∷ vs) = rw (ne_eqb (suc (length vs)) 0 (λ e. omega arith))
 
--- ---- the line's length, counted value by value: `total` bytes for the values in front of place i
-pub count_more : (values : List ℕ) (i total more : ℕ) → i < length values → more ≡ places (get_or values i 0) + 1
-    → length (values_line values) ≡ total + length (values_line (drop i values))
-    → length (values_line values) ≡ total + more + length (values_line (drop (i + 1) values))
-count_more values i total more h e so_far = omega (arith, so_far, e, length_line_from values i h)
+-- ---- the line's length, counted value by value up to the highest: `total` for the values in front of place i
+module _ (values : List ℕ) (i total : ℕ) (so_far : counted (length (values_line values)) ≡ counted (total + length (values_line (drop i values)))) where
+  pub count_more : (more : ℕ) → i < length values → more ≡ min (total + (places (get_or values i 0) + 1)) highest_count
+      → counted (length (values_line values)) ≡ counted (more + length (values_line (drop (i + 1) values)))
+  count_more more h e =
+      omega (
+        arith,
+        so_far,
+        e,
+        length_line_from values i h,
+        counted_min (total + length (values_line (drop i values))),
+        counted_min (more + length (values_line (drop (i + 1) values))),
+      )
 
-pub count_end : (values : List ℕ) (i total : ℕ) → length values ≤ i
-    → length (values_line values) ≡ total + length (values_line (drop i values)) → length (values_line values) ≡ total
-count_end values i total h so_far = omega (arith, so_far, ap length (line_end_lem values i h))
+  pub count_end : length values ≤ i → total ≤ highest_count → total ≡ counted (length (values_line values))
+  count_end h low =
+      omega (arith, so_far, ap length (line_end_lem values i h), counted_min (total + length (values_line (drop i values))))
 
 -- ---- a value d and a byte s behind it, written over q behind p
 module _ (p q : List ℕ) (at : ℕ) (e : length p ≡ at) where
@@ -73,9 +83,6 @@ pub record Laid (values before out : List ℕ) (at i : ℕ) : Type 0 where
   pub long : length out ≡ length before
   pub output : out ≡ take at (values_line values) ++ drop at before
   pub rest : drop at (values_line values) ≡ values_line (drop i values)
-
-pub laid_none : (values out : List ℕ) → length (values_line values) ≤ length out → Laid values out out 0 0
-laid_none values out h = record { turns = omega arith; room = h; low = omega arith; long = refl; output = refl; rest = refl }
 
 pub laid_end : (values before out : List ℕ) (at i : ℕ) → Laid values before out at i → length values ≤ i
     → out ≡ values_line values ++ drop (length (values_line values)) before

@@ -1,9 +1,8 @@
 -- What a text's lines are, what a line's fields are, and which of them are values.
-use Rattle.std.specs.Prelude.{ℕ, ◌+◌, ◌-◌, ◌*◌, Bool, true, false, not, ◌&&◌, cond, List, [], ◌∷◌, map, leb, eqb, length, take}
+use Rattle.std.specs.Prelude.{ℕ, ◌+◌, ◌-◌, ◌*◌, Bool, true, false, not, ◌&&◌, cond, List, [], ◌∷◌, map, leb, eqb, length, take, Option, Some, None}
 use Rattle.lists.specs.Tests.{between}
 use Rattle.lists.specs.Lists.{all, first_index}
-use Rattle.text.specs.declared.Read.{Read}
-use Rattle.text.specs.declared.Read.TheVariants.{Number, Other}
+use Rattle.text.specs.declared.Field.{Field}
 use Rattle.text.specs.Bytes.{space, line_end}
 
 -- ---- lines and fields
@@ -60,5 +59,5 @@ values_of line = map number (fields line)
 unfoldable pub first_field : List ℕ → List ℕ
 first_field rest = take (first_index (λ b. eqb b space) rest) rest
 
-unfoldable pub value_in : List ℕ → Read
-value_in rest = let field = first_field rest in cond (is_value field) (Number (number field) (length field)) Other
+unfoldable pub value_in : List ℕ → Option Field
+value_in rest = let field = first_field rest in cond (is_value field) (Some (record { number = number field; end = length field })) None

@@ -1,59 +1,46 @@
--- After i turns n is the number that the first i bytes make, all of them digits: the rest decides, from n on.
-use Prim.Native.Nat.{ℕ, ◌+◌, ◌-◌, ◌*◌}
+-- After some bytes n is the number that they make, all of them digits: the rest decides, from n on.
+use Prim.Native.Nat.{ℕ, ◌+◌, ◌*◌}
 use native.Mathlib.Omega.{arith}
-use mathlib.Core.Path.{refl, sym, ap, ◌∙◌}
-use lib.ListN.{drop}
+use mathlib.Core.Path.{sym, ap, ◌∙◌}
+use lib.ListN.{get_or, drop}
 use Rattle.lists.proofs.Loops.{all_pass, all_fail, all_end_lem}
 use Rattle.text.specs.Reading.{is_digit, number_from}
-use Rattle.text.proofs.NumberLaws.{digit_yes, digit_low, digit_high, number_from_lem, number_end, no_digit, too_large, in_range}
+use Rattle.text.proofs.NumberLaws.{digit_is, number_from_lem, number_end, no_digit, too_large, in_range}
 use Rattle.text.proofs.digits_number.Goals as goal
 
-pub loop-i-init : goal.loop-i-init
-loop-i-init c = (omega arith, (omega arith, (refl, refl)))
-
-pub returns-then-b-lt-ZERO : goal.returns-then-b-lt-ZERO
-returns-then-b-lt-ZERO c =
+pub returns-then-not-is_ascii_digit : goal.returns-then-not-is_ascii_digit
+returns-then-not-is_ascii_digit c =
     let field = c.args.field.now in
-    let l = c.loop-i in
-    no_digit field
-    (all_fail is_digit field 0 l.i (omega arith) (digit_low _ (omega (arith, c.wide-b.ensures))) l.invariant.1.1.0)
+    let l = c.loop-b in
+    let other = sym (digit_is (get_or field l.b-index 0)) ∙ sym c.is_ascii_digit.ensures.value ∙ c.if-not-is_ascii_digit.true in
+    no_digit field (all_fail is_digit field 0 l.b-index (omega arith) other l.invariant.1.0)
 
-pub returns-then-b-gt-NINE : goal.returns-then-b-gt-NINE
-returns-then-b-gt-NINE c =
+pub returns-then-n-gt65535 : goal.returns-then-n-gt65535
+returns-then-n-gt65535 c =
     let field = c.args.field.now in
-    let l = c.loop-i in
-    no_digit field
-    (all_fail is_digit field 0 l.i (omega arith) (digit_high _ (omega (arith, c.wide-b.ensures))) l.invariant.1.1.0)
+    let l = c.loop-b in
+    let rest = drop (l.b-index + 1) field in
+    too_large field _ rest c.if-n-gt65535.true
+    (l.invariant.1.1 ∙ number_from_lem field l.n l.b-index (omega arith)
+    ∙ ap (λ (d : ℕ). number_from (l.n * 10 + d) rest) (sym c.from.ensures))
 
-pub returns-then-n-ge-NO_VALUE : goal.returns-then-n-ge-NO_VALUE
-returns-then-n-ge-NO_VALUE c =
+pub loop-b-preserved : goal.loop-b-preserved
+loop-b-preserved c =
     let field = c.args.field.now in
-    let l = c.loop-i in
-    let rest = drop (l.i + 1) field in
-    too_large field _ rest c.if-n-ge-NO_VALUE.true
-    (l.invariant.1.1.1 ∙ number_from_lem field l.n l.i (omega arith)
-    ∙ ap (λ (d : ℕ). number_from (l.n * 10 + (d - 48)) rest) (sym c.wide-b.ensures))
-
-pub loop-i-preserved : goal.loop-i-preserved
-loop-i-preserved c =
-    let field = c.args.field.now in
-    let l = c.loop-i in
-    let w = c.wide-b.ensures in
-    let rest = drop (l.i + 1) field in (
+    let l = c.loop-b in
+    let digit = sym (digit_is (get_or field l.b-index 0)) ∙ sym c.is_ascii_digit.ensures.value ∙ c.if-not-is_ascii_digit.false in
+    let rest = drop (l.b-index + 1) field in (
       omega arith,
       (
-        omega arith,
-        (
-          all_pass is_digit field 0 l.i (omega arith) (digit_yes _ (omega (arith, w)) (omega (arith, w))) l.invariant.1.1.0,
-          l.invariant.1.1.1 ∙ number_from_lem field l.n l.i (omega arith)
-              ∙ ap (λ (d : ℕ). number_from (l.n * 10 + (d - 48)) rest) (sym w),
-        ),
+        all_pass is_digit field 0 l.b-index (omega arith) digit l.invariant.1.0,
+        l.invariant.1.1 ∙ number_from_lem field l.n l.b-index (omega arith)
+            ∙ ap (λ (d : ℕ). number_from (l.n * 10 + d) rest) (sym c.from.ensures),
       ),
     )
 
 pub returns : goal.returns
 returns c =
     let field = c.args.field.now in
-    let l = c.loop-i in
-    in_range field l.n (all_end_lem is_digit field l.i (omega arith) l.invariant.1.1.0)
-    (l.invariant.1.1.1 ∙ number_end field l.n l.i (omega arith)) (omega arith)
+    let l = c.loop-b in
+    in_range field l.n (all_end_lem is_digit field l.b-index (omega arith) l.invariant.1.0)
+    (l.invariant.1.1 ∙ number_end field l.n l.b-index (omega arith)) (omega arith)

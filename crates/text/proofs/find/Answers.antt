@@ -1,25 +1,15 @@
--- The search stands at place i: the byte is found from there on.
-use native.Mathlib.Omega.{arith}
+-- The place that the library's search tells, or the length, is the first that passes.
+use Rattle.std.proofs.Common.{rules, tests}
+use Rattle.std.proofs.lemmas.Iterator.{YieldsList-from_slice}
+use Rattle.std.proofs.lemmas.Iterator.Search.{position_from_yields_List}
+use mathlib.Core.Path.{◌∙◌}
 use lib.Dec.{eqb}
-use borrow.Author.Tests.{eq-eqb, ne_eqb}
-use Rattle.lists.proofs.Loops.{first_hit, first_miss, first_end}
+use Rattle.text.proofs.ReadingLaws.{place_or_length}
 use Rattle.text.proofs.find.Goals as goal
-
-pub loop-i-init : goal.loop-i-init
-loop-i-init c = omega arith
-
-pub returns-then-s-i : goal.returns-then-s-i
-returns-then-s-i c =
-    first_hit (λ x. eqb x c.args.byte) c.args.s.now 0 c.loop-i.i (omega arith) (eq-eqb _ _ c.if-s-i.true)
-    c.loop-i.invariant.1
-
-pub loop-i-preserved : goal.loop-i-preserved
-loop-i-preserved c = (
-  omega arith,
-  first_miss (λ x. eqb x c.args.byte) c.args.s.now 0 c.loop-i.i (omega arith)
-      (ne_eqb _ _ c.if-s-i.false) c.loop-i.invariant.1,
-)
 
 pub returns : goal.returns
 returns c =
-    first_end (λ x. eqb x c.args.byte) c.args.s.now c.loop-i.i (omega arith) c.loop-i.invariant.1
+    let s = c.args.s.now in
+    c.unwrap_or.ensures
+    ∙ place_or_length (λ b. eqb b c.args.byte) s c.position.result
+    (position_from_yields_List (λ b. eqb b c.args.byte) _ _ c.position.result c.position.ensures.ran (YieldsList-from_slice s cc) (λ x b q k. search (rules, tests)))

@@ -1,21 +1,23 @@
 -- A text that is not empty begins with a line, which ends at the first byte 10 or with the text.
-use native.Mathlib.Omega.{arith}
-use mathlib.Core.Path.{sym}
-use lib.Dec.{eqb}
-use lib.Seq.{length-take-le}
-use Rattle.lists.proofs.Search.{first_within}
-use Rattle.text.proofs.NamesLaws.{no_first, is_first}
+use mathlib.Core.Path.{sym, ◌∙◌}
+use Rattle.text.proofs.ReadingLaws.{part_long}
+use Rattle.text.proofs.NamesLaws.{no_first, first_is}
+use Rattle.text.proofs.first_line.Goals.{else-not-is_empty-via-then-not-is_empty+else-same, else-not-is_empty-via-else-not-is_empty}
 use Rattle.text.proofs.first_line.Goals as goal
 
-pub returns-then-text-eq0 : goal.returns-then-text-eq0
-returns-then-text-eq0 c =
-    no_first c.args.names.now c.args.text.now _ c.find-end.ensures c.if-text-eq0.true
-
 pub slice_bounds-same-end : goal.slice_bounds-same-end
-slice_bounds-same-end c =
-    let text = c.args.text.now in
-    sym (length-take-le c.find-end.result text (omega (arith, c.find-end.ensures, first_within (λ b. eqb b 10) text)))
+slice_bounds-same-end c = part_long 10 c.args.text.now c.find-end.result c.find-end.ensures
 
-pub returns : goal.returns
-returns c =
-    is_first c.args.names.now c.args.text.now _ c.find-end.ensures _ (omega (arith, c.if-text-eq0.false)) c.same-ok.ensures
+pub returns-then-same : goal.returns-then-same
+returns-then-same c =
+    sym (first_is c.args.names.now c.args.text.now _ c.find-end.ensures (sym c.is_empty.ensures ∙ c.if-not-is_empty.true) ∙ rw (← c.same.ensures, c.if-same.true))
+
+pub returns-else-not-is_empty : goal.returns-else-not-is_empty
+returns-else-not-is_empty c =
+    let names = c.args.names.now in
+    let text = c.args.text.now in
+    elim c.else-not-is_empty.branch [
+      | else-not-is_empty-via-then-not-is_empty+else-same w ↦
+          sym (first_is names text _ c.find-end.ensures (sym c.is_empty.ensures ∙ w.if-not-is_empty.true) ∙ rw (← w.same.ensures, w.if-same.false))
+      | else-not-is_empty-via-else-not-is_empty w ↦ no_first names text (sym c.is_empty.ensures ∙ w.if-not-is_empty.false)
+    ]

@@ -1,9 +1,0 @@
--- Each return is one case of the test.
-use borrow.Author.Tests.{eq-eqb, ne_eqb}
-use Rattle.text.proofs.separator.Goals as goal
-
-pub returns-then-left-eq0 : goal.returns-then-left-eq0
-returns-then-left-eq0 c = rw (eq-eqb c.args.left 0 c.if-left-eq0.true)
-
-pub returns : goal.returns
-returns c = rw (ne_eqb c.args.left 0 c.if-left-eq0.false)
