@@ -12,10 +12,10 @@ pub const MARKS: usize = 32;
 fn mask(place: usize) -> u8
     ensures { result ≡ 2 ^ (place % 8) }
 {
-    let bit = place % 8;
-    1u8 << bit
+    1u8 << (place % 8)
 }
 
+#[tactic(auto, using(crate::proofs::Masks::mask_tells), unfolding(crate::specs::Marks::marked_in))]
 pub fn is_marked(marks: &[u8], place: usize) -> bool
     requires { (length marks.now ≡ mark_bytes) × (place < 256) }
     ensures { result ≡ marked_in marks.now place }
@@ -23,21 +23,17 @@ pub fn is_marked(marks: &[u8], place: usize) -> bool
     marks[place / 8] & mask(place) != 0
 }
 
+#[tactic(auto, using(crate::proofs::Masks::mark_set))]
 pub fn mark(marks: &mut [u8], place: usize)
     requires { (length marks.old ≡ mark_bytes) × (place < 256) }
     ensures { marked_in marks.new ≡ with_mark place (marked_in marks.old) }
 {
-    let at = place / 8;
-    marks[at] = marks[at] | mask(place);
+    marks[place / 8] |= mask(place);
 }
 
 // Every byte becomes 0, whatever the length.
 pub fn clear(marks: &mut [u8])
     ensures { marks.new ≡ replicate (length marks.old) 0 }
 {
-    let mut i: usize = 0;
-    while i < marks.len() {
-        marks[i] = 0;
-        i = i + 1;
-    }
+    marks.fill(0);
 }
