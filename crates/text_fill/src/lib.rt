@@ -25,40 +25,38 @@ const ENTRIES: usize = 64;
 
 // ---- counting
 
+#[tactic(auto, unfolding(crate::specs::Filling::sort_of, saved::specs::Row::is_last_row, saved::specs::Row::is_entry_row))]
 fn sort_of(r: Row) -> usize
     requires { row_ok r ≡ true }
     ensures { result ≡ sort_of r }
 {
-    let program = PROGRAM * image_places::wide(r.pad) + image_places::wide(r.program);
-    if r.kind == 0 {
-        return program;
+    let program = PROGRAM * usize::from(r.pad) + usize::from(r.program);
+    match r.kind {
+        0 => program,
+        5 => ENTRIES,
+        _ => TICKETS + program,
     }
-    if r.kind == 5 {
-        return ENTRIES;
-    }
-    TICKETS + program
 }
 
 // One kind 0 line for a program, eight tickets, 256 entries.
+#[tactic(auto, unfolding(crate::specs::Filling::most_of, saved::specs::Row::is_last_row, saved::specs::Row::is_entry_row))]
 fn most_of(r: Row) -> u16
     ensures { result ≡ most_of r }
 {
-    if r.kind == 0 {
-        return 1;
+    match r.kind {
+        0 => 1,
+        5 => 256,
+        _ => 8,
     }
-    if r.kind == 5 {
-        return 256;
-    }
-    8
 }
 
 // Is there room for one more of its sort?
+#[tactic(auto, using(crate::proofs::Sorts::sort_low))]
 pub fn has_room(tally: &[u16], r: Row) -> bool
     requires { (length tally.now ≡ sorts) × (row_ok r ≡ true) }
     ensures { result ≡ ltb (get_or tally.now (sort_of r) 0) (most_of r) }
 {
-    let count = tally[sort_of(r)];
-    count < most_of(r)
+    tally[sort_of(r)] < most_of(r)
 }
 
 // ---- the records of a line
@@ -79,63 +77,60 @@ fn dock_in(r: Row) -> Name
     ensures { result ≡ cond (eqb r.kind 4) no_name (name_in r) }
 {
     if r.kind == 4 {
-        return Name::none();
+        Name::none()
+    } else {
+        name_in(r)
     }
-    name_in(r)
 }
 
+#[tactic(auto, unfolding(saved::specs::Load::ticket_from))]
 fn ticket_in(r: Row) -> Ticket
     ensures { result ≡ ticket_from (λ n. n) r }
 {
-    let kind = image_read::kind_of(r.kind);
-    let other = r.other;
-    let rights = Rights::make(r.rights);
     Ticket {
-        kind: kind,
+        kind: image_read::kind_of(r.kind),
         number: r.number,
         own: r.own,
-        other: other,
+        other: r.other,
         first: r.first,
         count: r.count,
-        rights: rights,
+        rights: Rights::make(r.rights),
         dock: dock_in(r),
     }
 }
 
+#[tactic(auto, unfolding(saved::specs::Load::entry_from))]
 fn entry_in(r: Row) -> Entry
     ensures { result ≡ entry_from r }
 {
-    let parent = r.other;
-    let rights = Rights::make(r.rights);
     Entry {
         live: true,
         name: name_in(r),
-        parent: parent,
+        parent: r.other,
         first: r.first,
         count: r.count,
-        rights: rights,
+        rights: Rights::make(r.rights),
     }
 }
 
 // ---- the next line
 
 // The line fills the next place of its sort, and is counted.
+#[tactic(auto, using(crate::proofs::Sorts::sort_low, crate::proofs::Sorts::most_high))]
 pub fn put_row(image: &mut [u8], tally: &mut [u16], r: Row)
     requires { (is_image image.old ≡ true) × ((length tally.old ≡ sorts) × ((row_ok r ≡ true) × (get_or tally.old (sort_of r) 0 < most_of r))) }
     ensures tallied { (before : List Row) → Tallied before tally.old → Tallied (r ∷ before) tally.new }
     ensures filled { (before : List Row) → Tallied before tally.old → Filled before image.old → Filled (r ∷ before) image.new }
 {
     let sort = sort_of(r);
-    let count = tally[sort];
-    tally[sort] = count + 1;
-    if r.kind == 0 {
-        image_write::put_last(image, sort, r.number);
-        return;
+    let count = usize::from(tally[sort]);
+    tally[sort] += 1;
+    match r.kind {
+        0 => image_write::put_last(image, sort, r.number),
+        5 => image_write::put_entry(image, count, entry_in(r)),
+        _ => {
+            let place = PROGRAM * (sort - TICKETS) + count;
+            image_write::put_ticket(image, place, ticket_in(r));
+        }
     }
-    if r.kind == 5 {
-        image_write::put_entry(image, image_places::wide(count), entry_in(r));
-        return;
-    }
-    let place = PROGRAM * (sort - TICKETS) + image_places::wide(count);
-    image_write::put_ticket(image, place, ticket_in(r));
 }
