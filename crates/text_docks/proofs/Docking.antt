@@ -1,7 +1,7 @@
 -- Before the place `i` the grants at the places before it have their dock names, and nothing else has changed.
 use Prim.Native.Nat.{ℕ, ◌+◌, ◌≤◌, ◌<◌}
 use native.Mathlib.Omega.{arith}
-use mathlib.Core.Path.{◌≡◌, refl, sym, ap, ◌∙◌}
+use mathlib.Core.Path.{◌≡◌, sym, ap, ◌∙◌}
 use mathlib.Core.Bool.{Bool, true, false, cond}
 use mathlib.Core.List.{List}
 use lib.Dec.{ltb}
@@ -20,25 +20,18 @@ use Rattle.image_read.specs.Places.{tickets_in, lasts_in, entries_in}
 use Rattle.image_read.proofs.Places.{tickets_long}
 use Rattle.image_find.proofs.Laws.{flattened, decoded_sized}
 use Rattle.image_write.specs.Shows.{Shows}
-use Rattle.text_docks.specs.Docks.{with_dock, docked_at, Docked}
+use Rattle.text_docks.specs.Docks.{with_dock, docked_at}
 use Rattle.text_docks.proofs.Undocked.{undocked, heads_alike}
 
 abbrev at : List ℕ → ℕ → Ticket
 at image p = get_or (tickets_in image) p free
 
 pub record Docking (image₀ image : List ℕ) (i : ℕ) : Type 0 where
-  pub inside : i ≤ 256
   pub is : is_image image ≡ true
   pub done : (p : ℕ) → p < i → at image p ≡ docked_at (decode image₀) p (at image₀ p)
   pub left : (p : ℕ) → i ≤ p → at image p ≡ at image₀ p
   pub lasts : lasts_in image ≡ lasts_in image₀
   pub entries : entries_in image ≡ entries_in image₀
-
-pub begins : (image : List ℕ) → is_image image ≡ true → Docking image image 0
-begins image is = record { inside = omega arith; is = is; done = λ p h. absurd (omega (arith, h)); left = λ p h. refl; lasts = refl; entries = refl }
-
-pub ends : (image₀ image : List ℕ) (i : ℕ) → 256 ≤ i → Docking image₀ image i → Docked image₀ image
-ends image₀ image i past d = record { is = d.is; tickets = λ p h. d.done p (omega (arith, past, h)); lasts = d.lasts; entries = d.entries }
 
 -- ---- one place more
 docked_alike : (t : Tables) (p : ℕ) (k : Ticket) → undocked (docked_at t p k) ≡ undocked k
@@ -68,7 +61,6 @@ module _ (image₀ image : List ℕ) (i : ℕ) (d : Docking image₀ image i) (l
       → Shows image' (set (tickets_in image) i (with_dock k (chain_head (decode image) (name_at i k)))) (lasts_in image) (entries_in image) → Docking image₀ image' (i + 1)
   unfolding docked_at
   dock_put image' k e g shows = record {
-    inside = omega (arith, low);
     is = shows.is;
     done = so_far {P = λ p. at image' p ≡ docked_at (decode image₀) p (at image₀ p)} i
         (λ p h. beside p (λ z. omega (arith, z, h)) ∙ d.done p h)
@@ -93,7 +85,6 @@ module _ (image₀ image : List ℕ) (i : ℕ) (d : Docking image₀ image i) (l
   pub none_put : (k : Ticket) → k ≡ at image i → is_grant k.kind ≡ false → Docking image₀ image (i + 1)
   unfolding docked_at
   none_put k e g = record {
-    inside = omega (arith, low);
     is = d.is;
     done = so_far {P = λ p. at image p ≡ docked_at (decode image₀) p (at image₀ p)} i d.done
         (here ∙ sym (ap (λ (b : Bool). cond b (with_dock (at image₀ i) (chain_head (decode image₀) (name_at i (at image₀ i)))) (at image₀ i))
