@@ -15,7 +15,8 @@ ghost use Rattle.text.specs.Appending.{Appends, Countable, counted};
 
 const SPACE: u8 = 32;
 
-const LINE_END: u8 = 10;
+// It ends a line.
+pub const LINE_END: u8 = 10;
 
 // ---- reading
 

@@ -10,7 +10,9 @@ use lib.ListN.{length, get_or, take, drop, replicate, length-replicate, get_or-r
 use lib.Seq.{ext_get_or}
 use borrow.Author.Tests.{leb-true, le-leb, ltb-true, lt-ltb, lt-leb}
 use Rattle.lists.specs.Lists.{all, some, count_of}
-use Rattle.lists.proofs.Tests.{both_ways, and_r, and_intro, and_false, no_true}
+use Rattle.std.specs.Prelude.{Some, None}
+use Rattle.text_rows.specs.Reading.{row_in}
+use Rattle.lists.proofs.Tests.{Case, pass, fail, case, both_ways, and_r, and_intro, and_false, no_true}
 use Rattle.lists.proofs.Reading.{same_all}
 use Rattle.lists.proofs.PartLaws.{every_intro, every_at}
 use Rattle.lists.proofs.Growing.{turned, count_turned}
@@ -109,10 +111,28 @@ module _ (before : List Row) (r : Row) where
     unfolding may_follow
     may_follow_lem h e = and_intro (above_next before r ∙ le-leb (next_key before) (key r) h) (sym room_told ∙ e)
 
--- ---- a line in form
-pub row_in_form : (line : List ℕ) (r : Row) → r ≡ row_of (values_of line) → line_ok line ≡ true → row_ok r ≡ true
+-- ---- a line in form, and one of another
+told_row : (line : List ℕ) (r : Row) → Some r ≡ row_in line → (r ≡ row_of (values_of line)) × (line_ok line ≡ true)
+unfolding row_in
+told_row line r e = go (case (line_ok line))
+  where
+    go : Case (line_ok line) → (r ≡ row_of (values_of line)) × (line_ok line ≡ true)
+    go (pass t) = let q = rw t at e in (cc, t)
+    go (fail f) = let q = rw f at e in cc
+
+told_other : (line : List ℕ) → None ≡ row_in line → line_ok line ≡ false
+unfolding row_in
+told_other line e = go (case (line_ok line))
+  where
+    go : Case (line_ok line) → line_ok line ≡ false
+    go (pass t) = let q = rw t at e in cc
+    go (fail f) = f
+
+pub row_in_form : (line : List ℕ) (r : Row) → Some r ≡ row_in line → row_ok r ≡ true
 unfolding line_ok
-row_in_form line r read e = ap row_ok read ∙ and_r (has_values columns line) (row_ok (row_of (values_of line))) e
+row_in_form line r read =
+    let t = told_row line r read in
+    ap row_ok t.0 ∙ and_r (has_values columns line) (row_ok (row_of (values_of line))) t.1
 
 pub key_low : (r : Row) → row_ok r ≡ true → r.number ≤ 65535 → key r < 12582912
 unfolding key
@@ -160,19 +180,22 @@ module _ (text : List ℕ) (start : ℕ) (image tally : List ℕ) (next from : �
     split : lines (drop from text) ≡ line ∷ left
     split = line_first text from k told some_left
 
-    pub other_form : line_ok line ≡ false → (image' : List ℕ) → ReadsLines all_lines false image'
+    pub other_form : None ≡ row_in line → (image' : List ℕ) → ReadsLines all_lines false image'
     unfolding lines_ok all
     other_form e image' = record {
-      answer = sym (rw (g.formed ∙ ap (all line_ok) split, e));
+      answer = sym (rw (g.formed ∙ ap (all line_ok) split, told_other line e));
       tables = λ t. no_true t;
     }
 
-    module _ (r : Row) (read : r ≡ row_of (values_of line)) (formed : line_ok line ≡ true) where
+    module _ (r : Row) (read : Some r ≡ row_in line) where
+      row_is : r ≡ row_of (values_of line)
+      row_is = (told_row line r read).0
+
       follow_here : all_follow [] (rows_of_lines all_lines) ≡ (may_follow g.before r && all_follow (r ∷ g.before) (rows_of_lines left))
       unfolding all_follow
       follow_here =
           g.follow ∙ ap (λ (ls : List (List ℕ)). all_follow g.before (rows_of_lines ls)) split
-          ∙ ap (λ (x : Row). may_follow g.before x && all_follow (x ∷ g.before) (rows_of_lines left)) (sym read)
+          ∙ ap (λ (x : Row). may_follow g.before x && all_follow (x ∷ g.before) (rows_of_lines left)) (sym row_is)
 
       pub not_next : may_follow g.before r ≡ false → (image' : List ℕ) → ReadsLines all_lines false image'
       unfolding lines_ok
@@ -182,19 +205,19 @@ module _ (text : List ℕ) (start : ℕ) (image tally : List ℕ) (next from : �
         tables = λ t. no_true t;
       }
 
-      pub goes_on : row_ok r ≡ true → may_follow g.before r ≡ true → (image' tally' : List ℕ) (keyed : ℕ) → keyed ≡ key r → Tallied (r ∷ g.before) tally'
+      pub goes_on : may_follow g.before r ≡ true → (image' tally' : List ℕ) (keyed : ℕ) → keyed ≡ key r → Tallied (r ∷ g.before) tally'
           → Filled (r ∷ g.before) image' → Going text start image' tally' (keyed + 1) (from + k + 1)
       unfolding turned next_key all
-      goes_on o m image' tally' keyed e t f = record {
+      goes_on m image' tally' keyed e t f = record {
         before = r ∷ g.before;
         inside = omega (arith, next_line.line_inside text from k told some_left);
-        ok = more o m g.ok;
+        ok = more (row_in_form line r read) m g.ok;
         tallied = t;
         filled = f;
         key_next = ap (λ (n : ℕ). n + 1) e;
-        formed = g.formed ∙ ap (all line_ok) split ∙ rw formed;
+        formed = g.formed ∙ ap (all line_ok) split ∙ rw ((told_row line r read).1);
         rows = g.rows ∙ ap (λ (ls : List (List ℕ)). turned g.before (rows_of_lines ls)) split
-            ∙ ap (λ (x : Row). turned g.before (x ∷ rows_of_lines left)) (sym read);
+            ∙ ap (λ (x : Row). turned g.before (x ∷ rows_of_lines left)) (sym row_is);
         follow = follow_here ∙ rw m;
       }
 

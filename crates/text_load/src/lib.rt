@@ -4,6 +4,7 @@
 
 ghost use Rattle.std.specs.Prelude.{◌+◌, ◌≤◌, ◌<◌, ◌≡◌, true, ltb, length, get_or, drop, replicate};
 ghost use Rattle.lists.specs.Lists.{all};
+ghost use Rattle.machine.specs.Refusal.{said};
 ghost use Rattle.image.specs.Layout.{image_size};
 ghost use Rattle.text.specs.Reading.{lines};
 ghost use Rattle.saved.specs.Save.{programs};
@@ -13,26 +14,20 @@ ghost use Rattle.lending.specs.Saved.{LoadsLent};
 ghost use Rattle.text_load.specs.Reading.{ReadsLines, ReadsText};
 
 use image::IMAGE;
+use machine::Refusal;
+use text::LINE_END;
 use text_fill::SORTS;
-
-const LINE_END: u8 = 10;
 
 // Does every program have its kind 0 line?
 fn all_programs(tally: &[u16]) -> bool
     requires { length tally.now ≡ sorts }
     ensures { result ≡ all (λ i. ltb 0 (get_or tally.now i 0)) programs }
 {
-    let mut i: usize = 0;
-    while i < 32 {
-        if tally[i] == 0 {
-            return false;
-        }
-        i = i + 1;
-    }
-    true
+    tally[..32].iter().all(|n| *n != 0)
 }
 
 // The lines from `start` on fill the image, which is lent as zeros, until one has another form or order.
+#[tactic(auto, using(crate::proofs::Lines::row_in_form, crate::proofs::Lines::key_low))]
 fn read_lines(image: &mut [u8], text: &[u8], start: usize) -> bool
     requires { (image.old ≡ replicate image_size 0) × (start ≤ length text.now + 1) }
     ensures { ReadsLines (lines (drop start text.now)) result image.new }
@@ -42,11 +37,9 @@ fn read_lines(image: &mut [u8], text: &[u8], start: usize) -> bool
     let mut from = start;
     while from < text.len() {
         let end = from + text::find(&text[from..], LINE_END);
-        let read = text_rows::read_row(&text[from..end]);
-        if !read.ok {
+        let Some(r) = text_rows::read_row(&text[from..end]) else {
             return false;
-        }
-        let r = read.row;
+        };
         let key = text_rows::key(r);
         if key < next {
             return false;
@@ -62,13 +55,14 @@ fn read_lines(image: &mut [u8], text: &[u8], start: usize) -> bool
 }
 
 // Does the text end with byte 10?
+#[tactic(auto, using(crate::proofs::WholeText::not_ended, crate::proofs::WholeText::ended_by))]
 fn is_ended(text: &[u8]) -> bool
     ensures { result ≡ is_ended text.now }
 {
-    if text.len() == 0 {
-        return false;
+    match text {
+        [.., last] => *last == LINE_END,
+        [] => false,
     }
-    text[text.len() - 1] == LINE_END
 }
 
 // The whole text: the names, byte 10 at the end, the lines.
@@ -76,35 +70,31 @@ fn read_text(image: &mut [u8], text: &[u8]) -> bool
     requires { image.old ≡ replicate image_size 0 }
     ensures { ReadsText text.now result image.new }
 {
-    let first = text::first_line(
+    let Some(end) = text::first_line(
         text,
         b"kind pad program number own opad oprogram onumber first count rights",
-    );
-    if !first.ok {
+    ) else {
         return false;
-    }
-    if !is_ended(text) {
-        return false;
-    }
-    read_lines(image, text, first.end + 1)
+    };
+    is_ended(text) && read_lines(image, text, end + 1)
 }
 
 // The tables of a text into lent tables: 13, and nothing changes; 18 or 14, and they are empty, which is zeros; or 0.
-pub fn load_lent(tables: &mut [u8], text: &[u8]) -> u16
-    ensures { LoadsLent tables.old text.now result tables.new }
+pub fn load_lent(tables: &mut [u8], text: &[u8]) -> Result<(), Refusal>
+    ensures { LoadsLent tables.old text.now (said result) tables.new }
 {
     if tables.len() != IMAGE {
-        return 13;
+        return Err(Refusal::Length);
     }
-    op_sheets::clear(tables);
+    tables.fill(0);
     if !read_text(tables, text) {
-        op_sheets::clear(tables);
-        return 18;
+        tables.fill(0);
+        return Err(Refusal::BadText);
     }
     text_docks::put_docks(tables);
     if !order::image_in_order(tables) {
-        op_sheets::clear(tables);
-        return 14;
+        tables.fill(0);
+        return Err(Refusal::NotInOrder);
     }
-    0
+    Ok(())
 }
