@@ -119,7 +119,16 @@ pub extern "C" fn dock_trace(
 ) -> u16
     ensures { TracesLent (trace_buffers tables.old store.old input.now output.old) result tables.new store.new output.new length.new }
 {
-    text_trace::trace_lent(tables, store, input, output, length)
+    match text_trace::trace_lent(tables, store, input, output) {
+        Ok(n) => {
+            *length = n;
+            0
+        }
+        Err(refusal) => {
+            *length = 0;
+            refusal.into()
+        }
+    }
 }
 
 // The ward report, by a scratch for marks, which is zeros after every answer. Its length, 0 with a refusal, goes to `length`.
@@ -148,5 +157,5 @@ pub extern "C" fn dock_save(tables: &[u8], output: &mut [u8], length: &mut usize
 pub extern "C" fn dock_load(tables: &mut [u8], text: &[u8]) -> u16
     ensures { LoadsLent tables.old text.now result tables.new }
 {
-    text_load::load_lent(tables, text)
+    machine::number(text_load::load_lent(tables, text))
 }

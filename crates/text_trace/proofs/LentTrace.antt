@@ -2,28 +2,21 @@
 use Prim.Native.Nat.{ℕ}
 use native.Mathlib.Omega.{arith}
 use mathlib.Core.Path.{◌≡◌, ◌∙◌}
-use mathlib.Core.Bool.{Bool, true, false, not, ◌&&◌}
+use mathlib.Core.Bool.{true, false}
 use mathlib.Core.List.{List}
 use lib.Dec.{leb, eqb}
 use lib.ListN.{length}
 use borrow.Author.Tests.{eq-eqb, ne_eqb}
 use Rattle.lists.proofs.Tests.{and_false}
-use Rattle.tables.specs.Order.{in_order}
 use Rattle.machine.specs.Refusal.{◌when◌else◌}
 use Rattle.image.specs.Layout.{image_size}
-use Rattle.image.specs.Image.{encode, decode, is_image}
+use Rattle.image.specs.Image.{encode}
 use Rattle.lending.specs.Batch.{tables_ok}
 use Rattle.lending.specs.Trace.{TraceBuffers, TraceLeft, trace_of, state_after, trace_refusal, trace_lent, TracesLent}
 use Rattle.text.specs.Writing.{written}
 use Rattle.text.specs.Appending.{Appends}
 use Rattle.text.proofs.Appending.{measured, write_tested}
-use Rattle.batch.proofs.Refusals.{is_image_lem, is_in_order}
-use Rattle.text_trace.specs.Contract.{Servable, LeavesDock}
-
--- ---- past 13 and 14, by what the test of the tables ensures
-pub tested : (image bytes : List ℕ) {r : Bool} → r ≡ (is_image image && in_order (decode image)) → not r ≡ false → length bytes ≡ 16384
-    → Servable image bytes
-tested image bytes told in_order_lem long = record { is = is_image_lem image told in_order_lem; order = is_in_order image told in_order_lem; store = long }
+use Rattle.text_trace.specs.Contract.{LeavesDock}
 
 module _ (b : TraceBuffers) where
   -- ---- refused

@@ -1,7 +1,7 @@
 -- One line's work: the request of a line in form is served on the lent image and store, and one of another form changes nothing.
 use Prim.Native.Nat.{ℕ, ◌<◌}
 use mathlib.Core.Path.{◌≡◌, refl, sym, ap, ◌∙◌}
-use mathlib.Core.Bool.{true, false, ◌&&◌, cond}
+use mathlib.Core.Bool.{true, ◌&&◌, cond}
 use mathlib.Core.List.{List}
 use lib.Dec.{eqb}
 use lib.ListN.{length, get_or, replicate, length-replicate}
@@ -23,7 +23,9 @@ use Rattle.lending.specs.Trace.{dock_of}
 use Rattle.trace_texts.specs.Line.{in_form, sent_by, answer_line, first_byte, other_line}
 use Rattle.trace_texts.specs.Trace.{served_by, answer_to, left_by_line}
 use Rattle.text_trace.specs.declared.Asked.{Asked}
-use Rattle.text_trace.specs.Contract.{Reads, Servable, LeavesDock}
+use Rattle.text_trace.specs.Contract.{asked_in, Servable, LeavesDock}
+use Rattle.std.specs.Prelude.{Some, None}
+use Rattle.text_trace.proofs.LineReading.{told, told_other}
 use Rattle.trace_texts.proofs.AnswersLaws.{answer_served, answer_other, left_served, left_other}
 
 -- ---- an image that stays as it is
@@ -33,10 +35,6 @@ module _ (image bytes : List ℕ) (small : (j : ℕ) → get_or image j 0 < 256)
 
   pub same_dock : LeavesDock (dock_of image bytes) image bytes
   same_dock = record { tables = same_image; decoded = refl; store = refl }
-
--- ---- a copy
-pub same_ready : {image bytes image' bytes' : List ℕ} → image' ≡ image → bytes' ≡ bytes → Servable image bytes → Servable image' bytes'
-same_ready e f ready = rw (e, f) ready
 
 -- ---- in order from line to line
 left_in_order : (s : State) (line : List ℕ) → Sized s.tables → in_order s.tables ≡ true → in_order (left_by_line s line).tables ≡ true
@@ -58,33 +56,30 @@ still_ready image bytes line image' bytes' ready h long =
     }
 
 -- ---- what the routine appends and leaves
-module _ (image bytes line : List ℕ) (number : ℕ) (a : Asked) (read : Reads line a) where
+module _ (image bytes line : List ℕ) (number : ℕ) where
   abbrev here : State
   here = dock_of image bytes
 
   -- a line of another form
-  module _ (e : a.formed ≡ false) where
-    not_formed : in_form line ≡ false
-    not_formed = sym read.formed ∙ e
-
+  module _ (other : None ≡ asked_in line) where
     pub other_text : answer_to number here line ≡ other_line number
-    other_text = answer_other number here line not_formed
+    other_text = answer_other number here line (told_other line other)
 
     pub other_holds : LeavesDock here image bytes → LeavesDock (left_by_line here line) image bytes
-    other_holds h = rw (left_other here line not_formed) h
+    other_holds h = rw (left_other here line (told_other line other)) h
 
   -- a line in form
-  module _ (e : a.formed ≡ true) where
+  module _ (a : Asked) (asked : Some a ≡ asked_in line) where
     formed : in_form line ≡ true
-    formed = sym read.formed ∙ e
+    formed = (told line a asked).0
 
     request_is : a.request ≡ (sent_by line).request
     unfolding sent_by
-    request_is = read.request formed
+    request_is = ap (λ (x : Asked). x.request) (told line a asked).1
 
     sheet_is : replicate 64 a.fill ≡ (sent_by line).sheet
     unfolding sent_by
-    sheet_is = ap (λ (n : ℕ). replicate 64 n) (read.fill formed)
+    sheet_is = ap (λ (x : Asked). replicate 64 x.fill) (told line a asked).1
 
     same_step : step (state_of (decode image) bytes (replicate 64 a.fill)) a.request ≡ served_by here line
     unfolding enter

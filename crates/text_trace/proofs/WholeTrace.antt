@@ -4,6 +4,7 @@ use native.Mathlib.Omega.{arith}
 use mathlib.Core.Path.{◌≡◌, sym, ap, subst, ◌∙◌}
 use mathlib.Core.Bool.{true, false}
 use mathlib.Core.List.{List, [], ◌∷◌, ◌++◌}
+use Rattle.std.specs.Prelude.{Some, None}
 use lib.Dec.{eqb}
 use lib.ListN.{length, take, drop, replicate, length-replicate}
 use lib.Seq.{append_snoc, take_at}
@@ -20,14 +21,12 @@ use Rattle.image.specs.Layout.{image_size}
 use Rattle.image.specs.Image.{decode, is_image}
 use Rattle.image.proofs.EmptyImage.{empty_zeros, zeros_empty}
 use Rattle.image.proofs.RoundTrip.{encode_is_image}
-use Rattle.text.specs.declared.FirstLine.{FirstLine}
 use Rattle.text.specs.Bytes.{bytes, line_end}
 use Rattle.text.specs.Reading.{lines}
-use Rattle.text.specs.Names.{named, behind_names, first_line_of}
+use Rattle.text.specs.Names.{behind_names, first_line_of}
 use Rattle.text.specs.Writing.{Writes}
 use Rattle.text.specs.Appending.{Appends, Countable}
-use Rattle.text.proofs.ReadingLaws.{up_to}
-use Rattle.text.proofs.NamesLaws.{lines_behind}
+use Rattle.text.proofs.NamesLaws.{other_first, first_named, lines_behind}
 use Rattle.text.proofs.WritingLaws.{writes_fits}
 use Rattle.text.proofs.Appending.{append_as, append_both}
 use Rattle.trace_texts.specs.Line.{other_line}
@@ -62,28 +61,20 @@ module _ (input : List ℕ) where
   unfolding input_ok
   too_long h = rw (lt-leb (length input) longest_input h)
 
-  module _ (first : FirstLine) (told : first ≡ first_line_of input_names input) where
-    first_ok : first.ok ≡ named input_names (lines input)
-    unfolding first_line_of
-    first_ok = ap (λ (f : FirstLine). f.ok) told
+  pub other_names : None ≡ first_line_of input_names input → input_ok input ≡ false
+  unfolding input_ok
+  other_names e = rw (other_first input_names input e, and_false)
 
-    first_end : first.end ≡ up_to line_end input
-    unfolding first_line_of
-    first_end = ap (λ (f : FirstLine). f.end) told
-
-    pub other_names : first.ok ≡ false → input_ok input ≡ false
+  module _ (end : ℕ) (told : Some end ≡ first_line_of input_names input) where
+    pub is_ok : length input ≤ longest_input → input_ok input ≡ true
     unfolding input_ok
-    other_names e = rw (sym first_ok ∙ e, and_false)
+    is_ok h = rw (le-leb (length input) longest_input h) (first_named input_names input end told).0
 
-    pub is_ok : length input ≤ longest_input → first.ok ≡ true → input_ok input ≡ true
-    unfolding input_ok
-    is_ok h e = rw (le-leb (length input) longest_input h) (sym first_ok ∙ e)
+    pub end_inside : end ≤ length input
+    end_inside = omega (arith, (first_named input_names input end told).1, first_within (λ b. eqb b line_end) input)
 
-    pub end_inside : first.end ≤ length input
-    end_inside = omega (arith, first_end, first_within (λ b. eqb b line_end) input)
-
-    pub behind_first : behind_names (lines input) ≡ lines (drop (first.end + 1) input)
-    behind_first = lines_behind input first.end first_end
+    pub behind_first : behind_names (lines input) ≡ lines (drop (end + 1) input)
+    behind_first = lines_behind input end (first_named input_names input end told).1
 
 -- ---- the output
 abbrev pub names_line : List ℕ
@@ -114,19 +105,19 @@ module _ (out middle : List ℕ) (at : ℕ) (names : Appends names_line out midd
 
 -- ---- behind the names
 module _ (s : State) (input : List ℕ) where
-  module _ (first : FirstLine) (told : first ≡ first_line_of input_names input) where
-    pub served_answers : answers 1 s (behind_names (lines input)) ≡ answers 1 s (lines (drop (first.end + 1) input))
-    served_answers = ap (answers 1 s) (behind_first input first told)
+  module _ (end : ℕ) (told : Some end ≡ first_line_of input_names input) where
+    pub served_answers : answers 1 s (behind_names (lines input)) ≡ answers 1 s (lines (drop (end + 1) input))
+    served_answers = ap (answers 1 s) (behind_first input end told)
 
-    pub served_fits : (at : ℕ) → at ≡ 34 → input_ok input ≡ true → Countable at (answers 1 s (lines (drop (first.end + 1) input)))
+    pub served_fits : (at : ℕ) → at ≡ 34 → input_ok input ≡ true → Countable at (answers 1 s (lines (drop (end + 1) input)))
     served_fits at e ok = subst (Countable at) served_answers (omega (arith, e, answers_fit s input ok))
 
     -- the dock that is left
-    pub served_leaves : {image bytes : List ℕ} → input_ok input ≡ true → LeavesDock (after_lines s (lines (drop (first.end + 1) input))) image bytes
+    pub served_leaves : {image bytes : List ℕ} → input_ok input ≡ true → LeavesDock (after_lines s (lines (drop (end + 1) input))) image bytes
         → LeavesDock (after_trace s input) image bytes
     unfolding after_trace
     served_leaves {image} {bytes} ok h =
-        rw ok (subst (λ (ls : List (List ℕ)). LeavesDock (after_lines s ls) image bytes) (sym (behind_first input first told)) h)
+        rw ok (subst (λ (ls : List (List ℕ)). LeavesDock (after_lines s ls) image bytes) (sym (behind_first input end told)) h)
 
   pub refused_leaves : {image bytes : List ℕ} → input_ok input ≡ false → LeavesDock s image bytes → LeavesDock (after_trace s input) image bytes
   unfolding after_trace

@@ -1,6 +1,6 @@
 -- What the routines below `trace` are lent and leave: a line of the input as it is read; and a dock as the image of its tables and its
 -- store, from line to line.
-use Rattle.std.specs.Prelude.{ℕ, ◌+◌, ◌≤◌, ◌≡◌, true, List, length}
+use Rattle.std.specs.Prelude.{ℕ, ◌+◌, ◌≤◌, ◌≡◌, true, cond, List, length, Option, Some, None}
 use Rattle.tables.specs.Order.{in_order}
 use Rattle.machine.specs.State.{State}
 use Rattle.machine.specs.Numbers.{request_of}
@@ -10,11 +10,11 @@ use Rattle.trace_texts.specs.Line.{fill_of, in_form}
 use Rattle.trace_texts.specs.Trace.{longest_input}
 use Rattle.text_trace.specs.declared.Asked.{Asked}
 
--- what is read from a line
-pub record Reads (line : List ℕ) (a : Asked) : Type 0 where
-  pub formed : a.formed ≡ in_form line
-  pub request : in_form line ≡ true → a.request ≡ request_of (values_of line)
-  pub fill : in_form line ≡ true → a.fill ≡ fill_of (values_of line)
+-- what a line in form asks for
+unfoldable pub asked_in : List ℕ → Option Asked
+asked_in line =
+    let values = values_of line in
+    cond (in_form line) (Some (record { request = request_of values; fill = fill_of values })) None
 
 -- an image of tables in order, and a store of 256 sheets
 pub record Servable (image bytes : List ℕ) : Type 0 where

@@ -4,18 +4,20 @@
 #![tactic(auto)]
 
 ghost use Rattle.std.specs.Prelude.{◌<◌, ◌≡◌, ◌&&◌, cond, leb, eqb, length, get_or, drop};
+ghost use Rattle.machine.specs.Refusal.{said, length_said};
 ghost use Rattle.text.specs.Reading.{lines};
 ghost use Rattle.text.specs.Writing.{Writes};
 ghost use Rattle.text.specs.Appending.{Appends, Countable};
 ghost use Rattle.trace_texts.specs.Line.{fill_ok, answer_line, other_line};
 ghost use Rattle.trace_texts.specs.Trace as spec;
 ghost use Rattle.lending.specs.Trace.{dock_of, trace_buffers, TracesLent};
-ghost use Rattle.text_trace.specs.Contract.{Reads, Servable, LinesFrom, LeavesDock};
+ghost use Rattle.text_trace.specs.Contract.{asked_in, Servable, LinesFrom, LeavesDock};
 
 use image::IMAGE;
-use machine::{Answer, Request};
+use machine::{Answer, Refusal, Request};
 use op_form::REQUEST;
 use op_sheets::{SHEET, STORE};
+use text::LINE_END;
 
 // The longest input, in bytes.
 pub const LONGEST: usize = 65536;
@@ -23,80 +25,59 @@ pub const LONGEST: usize = 65536;
 // Bytes that every trace has room in: the names, and at most fifteen for each byte of the input.
 pub const ROOM: usize = 983074;
 
-const LINE_END: u8 = 10;
-
 // ---- a line of the input
 
 // The request's numbers and the fill.
 const COLUMNS: usize = REQUEST + 1;
 
-// What a line asks for.
+// What a line in form asks for.
 #[derive(Clone, Copy)]
 pub struct Asked {
-    pub formed: bool,
     pub request: Request,
     pub fill: u8,
 }
 
+#[tactic(auto, unfolding(trace_texts::specs::Line::fill_ok))]
 fn fill_ok(op: u16, fill: u16) -> bool
     ensures { result ≡ fill_ok op fill }
 {
-    if op == 6 {
-        return fill <= 255;
-    }
-    fill == 0
+    if op == 6 { fill <= 255 } else { fill == 0 }
 }
 
-fn read_line(line: &[u8]) -> Asked
-    ensures { Reads line.now result }
+#[tactic(auto, using(crate::proofs::LineReading::fill_small), unfolding(crate::specs::Contract::asked_in, trace_texts::specs::Line::in_form))]
+fn read_line(line: &[u8]) -> Option<Asked>
+    ensures { result ≡ asked_in line.now }
 {
     let mut v = [0u16; COLUMNS];
-    let formed = text::read_values(line, &mut v);
-    let r = op_form::request_in(&v);
+    if !text::read_values(line, &mut v) {
+        return None;
+    }
+    let request = op_form::request_in(&v);
     let fill = v[REQUEST];
-    if !formed {
-        return Asked {
-            formed: false,
-            request: r,
-            fill: 0,
-        };
+    if !fill_ok(request.op, fill) {
+        return None;
     }
-    if !fill_ok(r.op, fill) {
-        return Asked {
-            formed: false,
-            request: r,
-            fill: 0,
-        };
-    }
-    Asked {
-        formed: true,
-        request: r,
-        fill: (fill % 256) as u8,
-    }
+    Some(Asked {
+        request,
+        fill: fill as u8,
+    })
 }
 
 // ---- a line of the output
-
-fn wide(b: u8) -> u16
-    ensures { result ≡ b }
-{
-    b as u16
-}
 
 // The first byte of an accepted read, or 0.
 fn first_byte(op: u16, res: u16, sheet: &[u8]) -> u16
     requires { 0 < length sheet.now }
     ensures { result ≡ cond (eqb op 5 && eqb res 0) (get_or sheet.now 0 0) 0 }
 {
-    if op != 5 {
-        return 0;
+    if op == 5 && res == 0 {
+        u16::from(sheet[0])
+    } else {
+        0
     }
-    if res != 0 {
-        return 0;
-    }
-    wide(sheet[0])
 }
 
+#[tactic(auto, unfolding(trace_texts::specs::Line::answer_line))]
 fn append_answer(out: &mut [u8], at: usize, number: u16, a: Answer, byte: u16) -> usize
     requires { Countable at (answer_line number a byte) }
     ensures { Appends (answer_line number a byte) out.old out.new at result }
@@ -105,11 +86,12 @@ fn append_answer(out: &mut [u8], at: usize, number: u16, a: Answer, byte: u16) -
     text::append_values(out, at, &values)
 }
 
+#[tactic(auto, unfolding(trace_texts::specs::Line::other_line))]
 fn append_other(out: &mut [u8], at: usize, number: u16) -> usize
     requires { Countable at (other_line number) }
     ensures { Appends (other_line number) out.old out.new at result }
 {
-    append_answer(out, at, number, op_outcome::plain(15), 0)
+    append_answer(out, at, number, Answer::refused(Refusal::OtherForm), 0)
 }
 
 // ---- lines, over the image and the store that the caller lends
@@ -127,15 +109,12 @@ fn serve_line(
     ensures appends { Appends (spec.answer_to number (dock_of tables.old store.old) line.now) out.old out.new at result }
     ensures leaves_dock { LeavesDock (spec.left_by_line (dock_of tables.old store.old) line.now) tables.new store.new }
 {
-    let a = read_line(line);
-    if !a.formed {
+    let Some(asked) = read_line(line) else {
         return append_other(out, at, number);
-    }
-    let r = a.request;
-    let fill = a.fill;
-    let mut sheet = [fill; SHEET];
-    let answer = op_serve::request(tables, store, &mut sheet, r);
-    let byte = first_byte(r.op, answer.result, &sheet);
+    };
+    let mut sheet = [asked.fill; SHEET];
+    let answer = op_serve::request(tables, store, &mut sheet, asked.request);
+    let byte = first_byte(asked.request.op, answer.result, &sheet);
     append_answer(out, at, number, answer, byte)
 }
 
@@ -153,13 +132,12 @@ pub fn serve_lines(
     ensures leaves_dock { LeavesDock (spec.after_lines (dock_of tables.old store.old) (lines (drop start input.now))) tables.new store.new }
 {
     let mut from = start;
-    let mut done: u16 = 0;
+    let mut number: u16 = 0;
     let mut total = at;
     while from < input.len() {
         let end = from + text::find(&input[from..], LINE_END);
-        let number = done + 1;
+        number += 1;
         total = serve_line(tables, store, &input[from..end], number, out, total);
-        done = number;
         from = end + 1;
     }
     total
@@ -177,30 +155,18 @@ fn put_trace(tables: &mut [u8], store: &mut [u8], input: &[u8], out: &mut [u8]) 
     if LONGEST < input.len() {
         return append_other(out, at, 0);
     }
-    let first = text::first_line(
+    let Some(end) = text::first_line(
         input,
         b"pad program op ticket topad toprogram first count rights fill",
-    );
-    if !first.ok {
+    ) else {
         return append_other(out, at, 0);
-    }
-    serve_lines(tables, store, input, first.end + 1, out, at)
-}
-
-// `to` becomes `from`.
-fn copy(from: &[u8], to: &mut [u8])
-    requires { length to.old ≡ length from.now }
-    ensures { to.new ≡ from.now }
-{
-    let mut i: usize = 0;
-    while i < from.len() {
-        to[i] = from[i];
-        i = i + 1;
-    }
+    };
+    serve_lines(tables, store, input, end + 1, out, at)
 }
 
 // Does the trace fit into so many bytes? Where that is not known beforehand it is run once on a copy of the dock, to no output, for its
 // length.
+#[tactic(auto, using(image::proofs::RoundTrip::image_whole, trace_texts::proofs::AnswersLaws::trace_short_from))]
 fn fits(tables: &[u8], store: &[u8], input: &[u8], room: usize) -> bool
     requires { Servable tables.now store.now }
     ensures { result ≡ leb (length (spec.trace_from (dock_of tables.now store.now) input.now)) room }
@@ -210,8 +176,8 @@ fn fits(tables: &[u8], store: &[u8], input: &[u8], room: usize) -> bool
     }
     let mut image = [0u8; IMAGE];
     let mut sheets = [0u8; STORE];
-    copy(tables, &mut image);
-    copy(store, &mut sheets);
+    image.copy_from_slice(tables);
+    sheets.copy_from_slice(store);
     let mut nothing = [0u8; 1];
     let total = put_trace(&mut image, &mut sheets, input, &mut nothing[..0]);
     total <= room
@@ -230,31 +196,25 @@ pub fn trace(input: &[u8], out: &mut [u8]) -> usize
     put_trace(&mut tables, &mut store, input, out)
 }
 
-// The trace over a lent dock: 13, 14, 17 where the output is too short for the whole, or 0. A refusal changes nothing, and the length is 0.
+// The trace over a lent dock and its length, or 13, 14, or 17 where the output is too short for the whole. A refusal changes nothing.
 pub fn trace_lent(
     tables: &mut [u8],
     store: &mut [u8],
     input: &[u8],
     output: &mut [u8],
-    length: &mut usize,
-) -> u16
-    ensures { TracesLent (trace_buffers tables.old store.old input.now output.old) result tables.new store.new output.new length.new }
+) -> Result<usize, Refusal>
+    ensures { TracesLent (trace_buffers tables.old store.old input.now output.old) (said result) tables.new store.new output.new (length_said result) }
 {
-    *length = 0;
-    if tables.len() != IMAGE {
-        return 13;
-    }
-    if store.len() != STORE {
-        return 13;
+    if tables.len() != IMAGE || store.len() != STORE {
+        return Err(Refusal::Length);
     }
     if !order::image_in_order(tables) {
-        return 14;
+        return Err(Refusal::NotInOrder);
     }
     if !fits(tables, store, input, output.len()) {
-        return 17;
+        return Err(Refusal::TooShort);
     }
-    *length = put_trace(tables, store, input, output);
-    0
+    Ok(put_trace(tables, store, input, output))
 }
 
 // An output that every trace fits into.

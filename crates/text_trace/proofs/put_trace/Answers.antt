@@ -1,9 +1,9 @@
 -- The names go to the front; behind them goes one line for an input that is refused, or the answers to the lines behind its names.
 use Prim.Native.Nat.{◌≤◌}
 use native.Mathlib.Omega.{arith}
+use borrow.Author.Rules.{rules}
 use mathlib.Core.Path.{sym}
 use lib.ListN.{length}
-use borrow.Author.Tests.{not-true, not-false}
 use Rattle.lending.specs.Trace.{dock_of}
 use Rattle.text.specs.Bytes.{bytes}
 use Rattle.text.proofs.Appending.{append_as}
@@ -12,11 +12,6 @@ use Rattle.text_trace.proofs.LineServed.{same_dock}
 use Rattle.text_trace.proofs.WholeTrace.{too_long, other_names, is_ok, end_inside, names_end, refused_fits, refused_trace, served_trace}
 use Rattle.text_trace.proofs.WholeTrace.{served_answers, served_fits, served_leaves, refused_leaves}
 use Rattle.text_trace.proofs.put_trace.Goals as goal
-
--- GONE slice-aggregate-append
--- slice-aggregate-append : tie.Need-slice-aggregate-append
--- slice-aggregate-append c = search rules
---
 
 pub append_other-requires : goal.append_other-requires
 unfolding output_names bytes
@@ -29,31 +24,28 @@ returns-then-input-gt-LONGEST c =
     let input = a.input.now in
     let here = dock_of a.tables.now a.store.now in
     let bad = too_long input c.if-input-gt-LONGEST.true in
-    let same = same_dock _ _ (λ j. omega (arith, c.slice_known-1.given j)) c.requires in record { appends = refused_trace _ _ _ c.append-at.ensures here input _ _ bad c.append_other.ensures; leaves_dock = refused_leaves here input bad same }
+    let same = same_dock _ _ (search rules) c.requires in
+    record { appends = refused_trace _ _ _ c.append-at.ensures here input _ _ bad c.append_other.ensures; leaves_dock = refused_leaves here input bad same }
 
--- GONE slice-aggregate-first-line
--- slice-aggregate-first-line : tie.Need-slice-aggregate-first-line
--- slice-aggregate-first-line c = search rules
---
-
-pub append_other-requires-then-not-first : goal.append_other-requires-then-not-first
+pub append_other-requires-in_default : goal.append_other-requires-in_default
 unfolding output_names bytes
-append_other-requires-then-not-first c = refused_fits _ _ _ c.append-at.ensures
+append_other-requires-in_default c = refused_fits _ _ _ c.append-at.ensures
 
-pub returns-then-not-first : goal.returns-then-not-first
+pub returns-in_default : goal.returns-in_default
 unfolding output_names input_names bytes
-returns-then-not-first c =
+returns-in_default c =
     let a = c.args in
     let input = a.input.now in
     let here = dock_of a.tables.now a.store.now in
-    let bad = other_names input _ c.first_line-first.ensures (not-true _ c.if-not-first.true) in
-    let same = same_dock _ _ (λ j. omega (arith, c.slice_known-1.given j)) c.requires in record { appends = refused_trace _ _ _ c.append-at.ensures here input _ _ bad c.append_other-then-not-first.ensures; leaves_dock = refused_leaves here input bad same }
+    let bad = other_names input c.in_default.ensures in
+    let same = same_dock _ _ (search rules) c.requires in
+    record { appends = refused_trace _ _ _ c.append-at.ensures here input _ _ bad c.append_other-in_default.ensures; leaves_dock = refused_leaves here input bad same }
 
-pub overflow_add-first : goal.overflow_add-first
+pub overflow_add-end : goal.overflow_add-end
 unfolding input_names bytes
-overflow_add-first c =
+overflow_add-end c =
     let input = c.args.input.now in
-    omega (arith, end_inside input _ c.first_line-first.ensures)
+    omega (arith, end_inside input _ c.in-Some.ensures)
 
 pub serve_lines-requires : goal.serve_lines-requires
 unfolding output_names input_names bytes
@@ -62,8 +54,8 @@ serve_lines-requires c =
     let input = a.input.now in
     let names = names_end _ _ _ c.append-at.ensures in
     let short : length input ≤ longest_input = omega (arith, c.if-input-gt-LONGEST.false) in
-    let told = c.first_line-first.ensures in
-    let ok = is_ok input _ told short (not-false _ c.if-not-first.false) in (
+    let told = c.in-Some.ensures in
+    let ok = is_ok input _ told short in (
       c.requires,
       (
         record { short = short; first = omega arith; inside = omega (arith, end_inside input _ told) },
@@ -79,6 +71,10 @@ returns c =
     let input = a.input.now in
     let here = dock_of a.tables.now a.store.now in
     let short : length input ≤ longest_input = omega (arith, c.if-input-gt-LONGEST.false) in
-    let told = c.first_line-first.ensures in
-    let ok = is_ok input _ told short (not-false _ c.if-not-first.false) in
-    let lines = c.serve_lines.ensures in record { appends = served_trace _ _ _ names here input _ _ ok (append_as _ _ _ _ _ _ (sym (served_answers here input _ told)) lines.appends); leaves_dock = served_leaves here input _ told ok lines.leaves_dock }
+    let told = c.in-Some.ensures in
+    let ok = is_ok input _ told short in
+    let lines = c.serve_lines.ensures in
+    record {
+      appends = served_trace _ _ _ names here input _ _ ok (append_as _ _ _ _ _ _ (sym (served_answers here input _ told)) lines.appends);
+      leaves_dock = served_leaves here input _ told ok lines.leaves_dock;
+    }

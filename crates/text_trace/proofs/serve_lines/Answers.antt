@@ -1,9 +1,8 @@
 -- Before each line `Going` holds.
 use Prim.Native.Nat.{◌≤◌}
 use native.Mathlib.Omega.{arith}
-use mathlib.Core.Path.{sym, ◌∙◌}
+use borrow.Author.Rules.{rules}
 use lib.ListN.{length}
-use Rattle.image.proofs.RoundTrip.{image_whole}
 use Rattle.text_trace.proofs.TraceSteps.{begins, ends, end_holds, line_inside, line_bound, next}
 use Rattle.text_trace.proofs.serve_lines.Goals as goal
 
@@ -11,7 +10,7 @@ pub loop-from-init : goal.loop-from-init
 loop-from-init c =
     let a = c.args in
     let p = c.requires in
-    begins a.tables.now a.store.now a.input.now a.start a.out.now a.at (λ j. omega (arith, c.slice_known-1.given j)) p.0 p.1.0
+    begins a.tables.now a.store.now a.input.now a.start a.out.now a.at (search rules) p.0 p.1.0
     p.1.1
 
 pub overflow_add-end : goal.overflow_add-end
@@ -42,17 +41,6 @@ pub loop-from-preserved : goal.loop-from-preserved
 loop-from-preserved c =
     let line = c.serve_line-total in
     next _ _ _ _ _ _ _ _ _ _ _ c.loop-from.invariant _ c.find.ensures c.loop-from-test.true _ _ _ _ line.ensures.appends line.ensures.leaves_dock line.auto.store
-
-pub shape_of-tables : goal.shape_of-tables
-shape_of-tables c =
-    image_whole c.loop-from.tables c.loop-from.invariant.ready.is ∙ sym (image_whole c.args.tables.now c.requires.0.is)
-
-pub shape_of-store : goal.shape_of-store
-shape_of-store c =
-    c.loop-from.invariant.ready.store ∙ sym c.requires.0.store
-
-pub shape_of-out : goal.shape_of-out
-shape_of-out c = c.loop-from.invariant.kept
 
 pub returns : goal.returns
 returns c =

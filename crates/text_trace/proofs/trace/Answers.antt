@@ -1,32 +1,17 @@
 -- From zeros, which are the emptied dock: a trace that fits goes to the front of the output; another is refused.
-use Prim.Native.Nat.{ℕ}
 use mathlib.Core.Path.{sym, ◌∙◌}
-use lib.ListN.{length-replicate}
-use Rattle.image.specs.Layout.{image_size}
 use Rattle.text.proofs.Appending.{write_tested, refuse_tested}
 use Rattle.text_trace.proofs.WholeTrace.{zeros_ready, from_zeros}
 use Rattle.text_trace.proofs.trace.Goals as goal
 
-pub slice_bounds-fits-end : goal.slice_bounds-fits-end
-slice_bounds-fits-end c = sym (length-replicate {A = ℕ} image_size 0)
-
-pub slice_bounds-fits-end-2 : goal.slice_bounds-fits-end-2
-slice_bounds-fits-end-2 c = sym (length-replicate {A = ℕ} 16384 0)
-
 pub fits-requires : goal.fits-requires
 fits-requires c = zeros_ready
 
-pub returns-then-not-fits : goal.returns-then-not-fits
-returns-then-not-fits c = from_zeros c.args.input.now (refuse_tested _ _ (sym c.fits.ensures ∙ c.if-not-fits.true))
-
-pub slice_bounds-put_trace-end : goal.slice_bounds-put_trace-end
-slice_bounds-put_trace-end c = sym (length-replicate {A = ℕ} image_size 0)
-
-pub slice_bounds-put_trace-end-2 : goal.slice_bounds-put_trace-end-2
-slice_bounds-put_trace-end-2 c = sym (length-replicate {A = ℕ} 16384 0)
-
 pub put_trace-requires : goal.put_trace-requires
 put_trace-requires c = zeros_ready
+
+pub returns-then-not-fits : goal.returns-then-not-fits
+returns-then-not-fits c = from_zeros c.args.input.now (refuse_tested _ _ (sym c.fits.ensures ∙ c.if-not-fits.true))
 
 pub returns : goal.returns
 returns c =
