@@ -15,6 +15,7 @@ use text_trace::LONGEST;
 // ---- a file
 
 // Reads until the buffer is full or the file ends; a read that fails ends it too. Answers how many bytes were read.
+// No method of `Read` does this without a heap: `read_exact` doesn't say how many bytes there were.
 fn read_full(file: &mut impl Read, buffer: &mut [u8]) -> usize
     ensures { result ≤ length buffer.new }
 {
@@ -60,6 +61,7 @@ fn read_part(
 // ---- a case
 
 // Is the trace of the input what is expected, byte for byte? The buffer is for the trace.
+#[tactic(auto, using(text_trace::proofs::WholeTrace::whole_in_buffer))]
 fn traces_to(input: &[u8], expected: &[u8], out: &mut [u8]) -> bool
     requires { length out.old ≡ trace_room }
     ensures { result ≡ same_bytes (trace input.now) expected.now }

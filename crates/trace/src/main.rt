@@ -10,6 +10,7 @@ use std::process::ExitCode;
 use text_trace::LONGEST;
 
 // Reads until the buffer is full or the input ends; a read that fails ends it too. Answers how many bytes were read.
+// No method of `Read` does this without a heap: `read_exact` doesn't say how many bytes there were.
 fn read_full(input: &mut impl Read, buffer: &mut [u8]) -> usize
     ensures { result ≤ length buffer.new }
 {
@@ -25,6 +26,7 @@ fn read_full(input: &mut impl Read, buffer: &mut [u8]) -> usize
 }
 
 // The trace in a buffer that every trace fits into: it is never refused.
+#[tactic(auto, using(text_trace::proofs::WholeTrace::whole_in_buffer))]
 fn whole_trace(input: &[u8], out: &mut [u8]) -> usize
     requires { length out.old ≡ trace_room }
     ensures upper_bound { result ≤ length out.new }

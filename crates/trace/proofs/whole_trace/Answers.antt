@@ -1,13 +1,7 @@
--- An output of this length takes every trace, so the trace is written whole.
+-- What was written lies within the output.
 use Rattle.std.proofs.Common.{arith}
 use Rattle.text.proofs.WritingLaws.{written_within}
-use Rattle.trace_texts.specs.Trace.{trace}
-use Rattle.text_trace.proofs.WholeTrace.{whole_in_buffer}
 use Rattle.trace.proofs.whole_trace.Goals as goal
 
-pub returns : goal.returns
-returns c =
-    let input = c.args.input.now in
-    let out = c.args.out.now in
-    let t = c.trace in
-    record { upper_bound = omega (arith, written_within (trace input) out _ _ t.ensures, t.auto.out); out_after = whole_in_buffer input out _ _ c.requires t.ensures }
+pub returns-clause-upper_bound : goal.returns-clause-upper_bound
+returns-clause-upper_bound c = omega (arith, written_within _ _ _ _ c.trace.ensures, c.trace.auto.out)
