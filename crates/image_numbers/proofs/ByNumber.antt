@@ -17,7 +17,7 @@ use Rattle.tables.proofs.ByNumber.{names_to, names_next, names_all}
 use Rattle.preservation.specs.InOrder.{Shape}
 use Rattle.image_places.specs.Places.{placed, name_at}
 use Rattle.image_places.proofs.Kept.{kept_there, kept_pad, kept_program, found_there, kept_here}
-use Rattle.image_numbers.specs.Numbers.{number_if, numbers_in, NextAbove}
+use Rattle.image_numbers.specs.Numbers.{number_if, numbers_in, NoneAbove, NextAbove}
 
 module _ (t : Tables) (shape : Shape t) (tickets : List Ticket) (same : (p : ℕ) → p < 256 → get_or tickets p free ≡ placed t p)
     (test : Ticket → Bool) (alive : (k : Ticket) → test k ≡ true → is_live k.kind ≡ true) (program : ℕ) (in_range : program < 32) where
@@ -48,7 +48,7 @@ module _ (t : Tables) (shape : Shape t) (tickets : List Ticket) (same : (p : ℕ
   abbrev standing : ℕ → Ticket
   standing i = placed t (8 * program + i)
 
-  pub stands : (i : ℕ) → i < 8 → 0 < number i → Stands i
+  stands : (i : ℕ) → i < 8 → 0 < number i → Stands i
   unfolding number_if
   stands i h positive = go (case (test (standing i)))
     where
@@ -94,32 +94,27 @@ module _ (t : Tables) (shape : Shape t) (tickets : List Ticket) (same : (p : ℕ
 
   -- ---- the next one
   module _ (after r : ℕ) (next : NextAbove numbers after r) where
-    below : (h : r < 8) (x : ℕ) → after < x → x < number r → test (lookup t (name x)) ≡ false
-    below h x above under =
+    pub next_low : r < 8
+    next_low = omega (arith, next.low, numbers_long)
+
+    below : (x : ℕ) → after < x → x < number r → test (lookup t (name x)) ≡ false
+    below x above under =
         cannot_pass _
         (λ e. let a = among x e in omega (
           arith,
           under,
-          next.least (omega (arith, h, numbers_long)) a.at (omega (arith, a.low, numbers_long))
-              (omega (arith, above, a.is)),
+          next.least a.at (omega (arith, a.low, numbers_long)) (omega (arith, above, a.is)),
           a.is,
         ))
 
-    pub next_above : r < 8 → after < number r
-    next_above h = next.above (omega (arith, h, numbers_long))
+    pub next_stands : Stands r
+    next_stands = stands r next_low (omega (arith, next.above))
 
-    pub next_name : r < 8 → names_to test t (program / 8) (program % 8) (number r) ≡ names_to test t (program / 8) (program % 8) after ++ name (number r) ∷ []
-    next_name h =
-        names_next test t (program / 8) (program % 8) after (number r) (next_above h) (stands r h (omega (arith, next_above h))).passes (below h)
+    pub next_name : names_to test t (program / 8) (program % 8) (number r) ≡ names_to test t (program / 8) (program % 8) after ++ name (number r) ∷ []
+    next_name = names_next test t (program / 8) (program % 8) after (number r) next.above next_stands.passes below
 
-    pub next_none : 8 ≤ r → after ≤ last_of t (program / 8) (program % 8)
-        → names_of test t (program / 8) (program % 8) ≡ names_to test t (program / 8) (program % 8) after
-    next_none h given =
-        names_all test t (program / 8) (program % 8) after given
-        (λ x above. cannot_pass _ (λ e. let a = among x e in omega (
-          arith,
-          above,
-          next.none (omega (arith, h, numbers_long)) a.at
-              (omega (arith, a.low, numbers_long)),
-          a.is,
-        )))
+  pub next_none : (after : ℕ) → NoneAbove numbers after → after ≤ last_of t (program / 8) (program % 8)
+      → names_of test t (program / 8) (program % 8) ≡ names_to test t (program / 8) (program % 8) after
+  next_none after none given =
+      names_all test t (program / 8) (program % 8) after given
+      (λ x above. cannot_pass _ (λ e. let a = among x e in omega (arith, above, none.none a.at (omega (arith, a.low, numbers_long)), a.is)))

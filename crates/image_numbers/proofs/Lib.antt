@@ -1,3 +1,4 @@
+pub mod Made
 pub mod Least
 pub mod ByNumber
 pub mod KindNumbers

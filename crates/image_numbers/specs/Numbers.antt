@@ -13,9 +13,12 @@ number_if test k = cond (test k) k.number 0
 unfoldable pub numbers_in : (Ticket → Bool) → List Ticket → ℕ → List ℕ
 numbers_in test tickets program = tabulate 8 (λ i. number_if test (get_or tickets (8 * program + i) free))
 
--- r is the place of the least number above `after`; the length where there is none
+-- no number is above `after`
+pub record NoneAbove (numbers : List ℕ) (after : ℕ) : Type 0 where
+  pub none : (i : ℕ) → i < length numbers → get_or numbers i 0 ≤ after
+
+-- r is the place of the least number above `after`
 pub record NextAbove (numbers : List ℕ) (after r : ℕ) : Type 0 where
-  pub low : r ≤ length numbers
-  pub above : r < length numbers → after < get_or numbers r 0
-  pub least : r < length numbers → (i : ℕ) → i < length numbers → after < get_or numbers i 0 → get_or numbers r 0 ≤ get_or numbers i 0
-  pub none : length numbers ≤ r → (i : ℕ) → i < length numbers → get_or numbers i 0 ≤ after
+  pub low : r < length numbers
+  pub above : after < get_or numbers r 0
+  pub least : (i : ℕ) → i < length numbers → after < get_or numbers i 0 → get_or numbers r 0 ≤ get_or numbers i 0

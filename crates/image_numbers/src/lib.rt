@@ -1,42 +1,41 @@
-// A program's tickets by number: the numbers of those that are wanted, each in its place, and the place of the next above a number.
+// A program's tickets by number: the numbers of those that are wanted, each in its place, and a walk over these places from the least number
+// to the highest.
 
 #![tactic(auto)]
 
-ghost use Rattle.std.specs.Prelude.{◌≡◌, ◌≤◌, ◌<◌, eqb, length, get_or};
+ghost use Rattle.std.specs.Prelude.{◌≡◌, ◌-◌, ◌≤◌, ◌<◌, eqb, length, get_or, MatchOption};
+ghost use Rattle.std.specs.Iterator.{at_most};
 ghost use Rattle.tables.specs.Kinds.{is_taken};
 ghost use Rattle.tables.specs.Names.{free};
 ghost use Rattle.tables.specs.Chains.{is_recall_of};
 ghost use Rattle.image.specs.Layout.{image_size};
 ghost use Rattle.image.specs.Image.{kind_number};
 ghost use Rattle.image_read.specs.Places.{tickets_in};
-ghost use Rattle.image_numbers.specs.Numbers.{number_if, numbers_in, NextAbove};
+ghost use Rattle.image_numbers.specs.Numbers.{number_if, numbers_in, NoneAbove, NextAbove};
+ghost use Rattle.image_numbers.specs.Steps.{NextPlace};
 
 use image_places::PROGRAM;
+use std::array;
 use tables::Ticket;
 
 // ---- who is wanted: 0 stands for the others
 
+#[tactic(auto, unfolding(crate::specs::Numbers::number_if))]
 fn taken_number(k: Ticket) -> u16
     ensures { result ≡ number_if (λ k. is_taken k.kind) k }
 {
-    let kind = k.kind;
-    if kind.is_taken() {
-        return k.number;
-    }
-    0
+    if k.kind.is_taken() { k.number } else { 0 }
 }
 
+#[tactic(auto, unfolding(crate::specs::Numbers::number_if, tables::specs::Chains::is_recall_of))]
 fn recall_number(k: Ticket, own: u16) -> u16
     ensures { result ≡ number_if (is_recall_of own) k }
 {
-    let kind = k.kind;
-    if !kind.is_recall() {
-        return 0;
+    if k.kind.is_recall() && k.own == own {
+        k.number
+    } else {
+        0
     }
-    if k.own != own {
-        return 0;
-    }
-    k.number
 }
 
 // Of the kinds that have a number from 1 to 4. The ticket is read only where its kind is the one.
@@ -44,11 +43,11 @@ fn kind_number(image: &[u8], place: usize, kind: u16) -> u16
     requires { (length image.now ≡ image_size) × ((place < 256) × ((1 ≤ kind) × (kind ≤ 4))) }
     ensures { result ≡ number_if (λ k. eqb (kind_number k.kind) kind) (get_or (tickets_in image.now) place free) }
 {
-    if image_read::kind_at(image, place) != kind {
-        return 0;
+    if image_read::kind_at(image, place) == kind {
+        image_read::ticket_at(image, place).number
+    } else {
+        0
     }
-    let k = image_read::ticket_at(image, place);
-    k.number
 }
 
 // ---- in the eight places of a program, counted over all pads
@@ -58,15 +57,7 @@ pub fn taken_numbers(image: &[u8], program: usize) -> [u16; 8]
     requires { (length image.now ≡ image_size) × (program < 32) }
     ensures { result ≡ numbers_in (λ k. is_taken k.kind) (tickets_in image.now) program }
 {
-    let from = PROGRAM * program;
-    let mut numbers = [0u16; 8];
-    let mut i: usize = 0;
-    while i < 8 {
-        let k = image_read::ticket_at(image, from + i);
-        numbers[i] = taken_number(k);
-        i = i + 1;
-    }
-    numbers
+    array::from_fn(|i| taken_number(image_read::ticket_at(image, PROGRAM * program + i)))
 }
 
 // Its recalls that stand under the grant of the number `own`.
@@ -74,15 +65,7 @@ pub fn recall_numbers(image: &[u8], program: usize, own: u16) -> [u16; 8]
     requires { (length image.now ≡ image_size) × (program < 32) }
     ensures { result ≡ numbers_in (is_recall_of own) (tickets_in image.now) program }
 {
-    let from = PROGRAM * program;
-    let mut numbers = [0u16; 8];
-    let mut i: usize = 0;
-    while i < 8 {
-        let k = image_read::ticket_at(image, from + i);
-        numbers[i] = recall_number(k, own);
-        i = i + 1;
-    }
-    numbers
+    array::from_fn(|i| recall_number(image_read::ticket_at(image, PROGRAM * program + i), own))
 }
 
 // Its tickets of a kind.
@@ -90,33 +73,51 @@ pub fn kind_numbers(image: &[u8], program: usize, kind: u16) -> [u16; 8]
     requires { (length image.now ≡ image_size) × ((program < 32) × ((1 ≤ kind) × (kind ≤ 4))) }
     ensures { result ≡ numbers_in (λ k. eqb (kind_number k.kind) kind) (tickets_in image.now) program }
 {
-    let from = PROGRAM * program;
-    let mut numbers = [0u16; 8];
-    let mut i: usize = 0;
-    while i < 8 {
-        numbers[i] = kind_number(image, from + i, kind);
-        i = i + 1;
-    }
-    numbers
+    array::from_fn(|i| kind_number(image, PROGRAM * program + i, kind))
 }
 
-// The place of the least number above `after`, or the length.
-pub fn next_above(numbers: &[u16], after: u16) -> usize
-    ensures { NextAbove numbers.now after result }
+// ---- the walk
+
+// The place of the least number above `after`.
+#[tactic(auto, using(crate::proofs::Least::best_none, crate::proofs::Least::best_past, crate::proofs::Least::best_kept, crate::proofs::Least::best_new, crate::proofs::Least::best_end))]
+fn next_above(numbers: &[u16], after: u16) -> Option<usize>
+    ensures { MatchOption result (NoneAbove numbers.now after) (NextAbove numbers.now after) }
 {
-    let mut next = numbers.len();
+    let mut next = None;
     let mut least: u16 = 65535;
-    let mut i: usize = 0;
-    while i < numbers.len() {
-        let at = i;
-        let n = numbers[i];
-        i = i + 1;
-        if after < n {
-            if n <= least {
-                least = n;
-                next = at;
-            }
+    for (i, n) in numbers.iter().enumerate() {
+        if after < *n && *n <= least {
+            least = *n;
+            next = Some(i);
         }
     }
     next
+}
+
+// The places of the numbers above `after`, from the least to the highest.
+#[derive(Drop)]
+pub struct Walk {
+    numbers: [u16; 8],
+    after: u16,
+}
+
+impl Iterator for Walk {
+    type Item = usize;
+
+    ghost next_gives = { NextPlace };
+
+    ghost remaining = { λ s. at_most (65535 - s.after) };
+
+    fn next(&mut self) -> Option<usize> {
+        let i = next_above(&self.numbers, self.after)?;
+        self.after = self.numbers[i];
+        Some(i)
+    }
+}
+
+// The places of the numbers that are not 0.
+pub fn by_number(numbers: [u16; 8]) -> Walk
+    ensures { result ≡ record { numbers = numbers; after = 0 } }
+{
+    Walk { numbers, after: 0 }
 }

@@ -1,5 +1,5 @@
 -- The loop over the blocks: the lines of those below m are put.
-use Prim.Native.Nat.{ℕ, ◌+◌, ◌≤◌, ◌<◌}
+use Prim.Native.Nat.{ℕ, ◌+◌, ◌<◌}
 use native.Mathlib.Omega.{arith}
 use native.Mathlib.Numerals.{add-one}
 use mathlib.Core.Path.{◌≡◌, refl, sym, ap, subst, ◌∙◌}
@@ -41,7 +41,6 @@ module _ (t : Tables) where
   rows_to m = joined m (block t)
 
   pub record Round (out₀ : List ℕ) (at : ℕ) (out : List ℕ) (end m : ℕ) : Type 0 where
-    pub turns : m ≤ blocks
     pub long : length out ≡ length out₀
     pub text : Appends (lines_of (rows_to m)) out₀ out at end
 
@@ -50,16 +49,15 @@ module _ (t : Tables) where
   none_yet = lines_none
 
   pub round_none : (out : List ℕ) (at : ℕ) → Round out at out at 0
-  round_none out at = record { turns = omega arith; long = refl; text = append_as _ _ out out at at (sym none_yet) (append_none out at) }
+  round_none out at = record { long = refl; text = append_as _ _ out out at at (sym none_yet) (append_none out at) }
 
   rows_more : (m : ℕ) → rows_to (m + 1) ≡ rows_to m ++ block t m
   unfolding joined
   rows_more m = rw (add-one m) refl
 
   module _ (out₀ : List ℕ) (at : ℕ) (out : List ℕ) (end m : ℕ) (round : Round out₀ at out end m) where
-    pub round_end : blocks ≤ m → Appends (lines_of (rows_to blocks)) out₀ out at end
-    round_end h =
-        let all : m ≡ blocks = omega (arith, round.turns, h) in
+    pub round_end : m ≡ blocks → Appends (lines_of (rows_to blocks)) out₀ out at end
+    round_end all =
         append_as _ _ out₀ out at end (ap (λ (n : ℕ). lines_of (rows_to n)) all) round.text
 
     module _ (h : m < blocks) where
@@ -72,7 +70,6 @@ module _ (t : Tables) where
 
       pub round_more : (out' : List ℕ) (r : ℕ) → Appends (lines_of (block t m)) out out' end r → Round out₀ at out' r (m + 1)
       round_more out' r put = record {
-        turns = omega arith;
         long = put.kept ∙ round.long;
         text = append_as _ _ out₀ out' at r (ap lines_of (sym (rows_more m)))
             (more_put (rows_to m) (block t m) out₀ out at end round.text out' r put);

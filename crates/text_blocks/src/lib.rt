@@ -25,18 +25,13 @@ const BLOCKS: usize = 192;
 fn number_row(pad: u16, program: u16, number: u16) -> Row
     ensures { result ≡ number_row pad program number }
 {
-    let none = Name {
-        pad: 0,
-        program: 0,
-        number: 0,
-    };
     Row {
         kind: 0,
-        pad: pad,
-        program: program,
-        number: number,
+        pad,
+        program,
+        number,
         own: 0,
-        other: none,
+        other: Name::none(),
         first: 0,
         count: 0,
         rights: 0,
@@ -46,45 +41,30 @@ fn number_row(pad: u16, program: u16, number: u16) -> Row
 fn grant_row(kind: u16, pad: u16, program: u16, parent: Name, k: Ticket) -> Row
     ensures { result ≡ grant_row kind pad program parent k }
 {
-    let rights = k.rights;
     Row {
-        kind: kind,
-        pad: pad,
-        program: program,
-        number: k.number,
-        own: 0,
+        kind,
         other: parent,
         first: k.first,
         count: k.count,
-        rights: rights.bits,
+        rights: k.rights.bits,
+        ..number_row(pad, program, k.number)
     }
 }
 
+#[tactic(auto, unfolding(saved::specs::Save::ticket_row, tables::specs::Same::said_by))]
 fn ticket_row(pad: u16, program: u16, k: Ticket) -> Row
     ensures { result ≡ ticket_row pad program k }
 {
-    let none = Name {
-        pad: 0,
-        program: 0,
-        number: 0,
-    };
-    let other = k.other;
-    let kind = k.kind;
-    match kind {
+    match k.kind {
         Kind::Free => number_row(pad, program, 0),
-        Kind::Taken => grant_row(1, pad, program, none, k),
-        Kind::Received => grant_row(2, pad, program, none, k),
-        Kind::Child => grant_row(3, pad, program, other, k),
+        Kind::Taken => grant_row(1, pad, program, Name::none(), k),
+        Kind::Received => grant_row(2, pad, program, Name::none(), k),
+        Kind::Child => grant_row(3, pad, program, k.other, k),
         Kind::Recall => Row {
             kind: 4,
-            pad: pad,
-            program: program,
-            number: k.number,
             own: k.own,
-            other: other,
-            first: 0,
-            count: 0,
-            rights: 0,
+            other: k.other,
+            ..number_row(pad, program, k.number)
         },
     }
 }
@@ -93,28 +73,24 @@ fn ticket_row(pad: u16, program: u16, k: Ticket) -> Row
 fn parent_of(e: Entry) -> Name
     ensures { result ≡ cond (is_none e.parent) no_name e.parent }
 {
-    let parent = e.parent;
-    if parent.number == 0 {
-        return Name::none();
+    if e.parent.number == 0 {
+        Name::none()
+    } else {
+        e.parent
     }
-    parent
 }
 
+#[tactic(auto, unfolding(saved::specs::Save::entry_row, tables::specs::Same::said_entry))]
 fn entry_row(e: Entry) -> Row
     ensures { result ≡ entry_row e }
 {
-    let name = e.name;
-    let rights = e.rights;
     Row {
         kind: 5,
-        pad: name.pad,
-        program: name.program,
-        number: name.number,
-        own: 0,
         other: parent_of(e),
         first: e.first,
         count: e.count,
-        rights: rights.bits,
+        rights: e.rights.bits,
+        ..number_row(e.name.pad, e.name.program, e.name.number)
     }
 }
 
@@ -145,7 +121,7 @@ fn put_entry(image: &[u8], notes: &[u16], out: &mut [u8], at: usize, place: usiz
     requires { Ordered image.now × (Noted image.now notes.now × ((place < 256) × ((has_entry (decode image.now) (ticket_in image.now place) ≡ true) × Countable at (line_of (entry_row_at image.now place))))) }
     ensures { Appends (line_of (entry_row_at image.now place)) out.old out.new at result }
 {
-    let e = image_read::entry_at(image, image_places::wide(notes[place]));
+    let e = image_read::entry_at(image, usize::from(notes[place]));
     text_rows::append_row(out, at, entry_row(e))
 }
 
@@ -159,13 +135,8 @@ fn put_tickets(image: &[u8], out: &mut [u8], at: usize, kind: u16, program: usiz
     let numbers = image_numbers::kind_numbers(image, program, kind);
     let from = PROGRAM * program;
     let mut end = at;
-    let mut after: u16 = 0;
-    let mut i = image_numbers::next_above(&numbers, after);
-    while i < 8 {
-        after = numbers[i];
-        let place = from + i;
-        i = image_numbers::next_above(&numbers, after);
-        end = put_ticket(image, out, end, place);
+    for i in image_numbers::by_number(numbers) {
+        end = put_ticket(image, out, end, from + i);
     }
     end
 }
@@ -178,13 +149,8 @@ fn put_entries(image: &[u8], notes: &[u16], out: &mut [u8], at: usize, program: 
     let numbers = text_notes::entry_numbers(image, notes, program);
     let from = PROGRAM * program;
     let mut end = at;
-    let mut after: u16 = 0;
-    let mut i = image_numbers::next_above(&numbers, after);
-    while i < 8 {
-        after = numbers[i];
-        let place = from + i;
-        i = image_numbers::next_above(&numbers, after);
-        end = put_entry(image, notes, out, end, place);
+    for i in image_numbers::by_number(numbers) {
+        end = put_entry(image, notes, out, end, from + i);
     }
     end
 }
@@ -197,12 +163,12 @@ fn put_block(image: &[u8], notes: &[u16], out: &mut [u8], at: usize, m: usize) -
     ensures { Appends (lines_of (block (decode image.now) m)) out.old out.new at result }
 {
     if m < 32 {
-        return put_last(image, out, at, m);
+        put_last(image, out, at, m)
+    } else if m < 160 {
+        put_tickets(image, out, at, (m / 32) as u16, m % 32)
+    } else {
+        put_entries(image, notes, out, at, m % 32)
     }
-    if m < 160 {
-        return put_tickets(image, out, at, (m / 32) as u16, m % 32);
-    }
-    put_entries(image, notes, out, at, m % 32)
 }
 
 fn put_blocks(image: &[u8], notes: &[u16], out: &mut [u8], at: usize) -> usize
@@ -210,10 +176,8 @@ fn put_blocks(image: &[u8], notes: &[u16], out: &mut [u8], at: usize) -> usize
     ensures { Appends (lines_of (joined blocks (block (decode image.now)))) out.old out.new at result }
 {
     let mut end = at;
-    let mut m: usize = 0;
-    while m < BLOCKS {
+    for m in 0..BLOCKS {
         end = put_block(image, notes, out, end, m);
-        m = m + 1;
     }
     end
 }

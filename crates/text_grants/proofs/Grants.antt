@@ -5,6 +5,7 @@ use mathlib.Core.Path.{◌≡◌, refl, sym, ap, subst, ◌∙◌}
 use mathlib.Core.Bool.{Bool, true}
 use mathlib.Core.List.{List, [], ◌∷◌, ◌++◌}
 use lib.ListN.{length, get_or}
+use Rattle.std.specs.Prelude.{Some}
 use Rattle.lists.specs.Lists.{keep, total}
 use Rattle.lists.specs.Parts.{tabulate}
 use Rattle.lists.specs.Members.{In}
@@ -19,8 +20,10 @@ use Rattle.tables.proofs.ByNumber.{names_to, names_front}
 use Rattle.image.specs.Image.{decode}
 use Rattle.image_read.specs.Places.{tickets_in}
 use Rattle.image_find.proofs.Laws.{flattened}
-use Rattle.image_numbers.specs.Numbers.{numbers_in, NextAbove}
-use Rattle.image_numbers.proofs.ByNumber.{Stands, stands, next_above, next_name, next_none}
+use Rattle.image_numbers.specs.declared.Walk.{Walk}
+use Rattle.image_numbers.specs.Numbers.{numbers_in, NoneAbove, NextAbove}
+use Rattle.image_numbers.specs.Steps.{NextPlace}
+use Rattle.image_numbers.proofs.ByNumber.{Stands, next_stands, next_name, next_none}
 use Rattle.text_marks.specs.Marks.{marked_in, unmarked}
 use Rattle.text_marks.proofs.Laws.{unmarked_most}
 use Rattle.report.specs.Rows.{is_listed}
@@ -63,17 +66,14 @@ module _ (image : List ℕ) (program : ℕ) where
   pub taken_listed_lem : Ordered image → (k : ℕ) (q : Name) → In q (taken_to k) → is_listed t q ≡ true
   taken_listed_lem o k q i = lent_listed t o.order (root (kept (λ n. test (lookup t n)) q (tabulate k (λ j. name_of (program / 8) (program % 8) (suc j))) i).passes)
 
-  module _ (o : Ordered image) (low : program < 32) (after i : ℕ) (next : NextAbove grants after i) where
-    pub taken_all : 8 ≤ i → after ≤ last → taken_to after ≡ taken_of t program
-    taken_all h given =
-        sym (next_none t o.order.shape (tickets_in image) (flattened image).same test taken_live program low after i next h given)
+  module _ (o : Ordered image) (low : program < 32) where
+    pub taken_all : (after : ℕ) → NoneAbove grants after → after ≤ last → taken_to after ≡ taken_of t program
+    taken_all after none given =
+        sym (next_none t o.order.shape (tickets_in image) (flattened image).same test taken_live program low after none given)
 
-    module _ (h : i < 8) where
-      pub rises : after < number i
-      rises = next_above t o.order.shape (tickets_in image) (flattened image).same test taken_live program low after i next h
-
+    module _ (after i : ℕ) (next : NextAbove grants after i) where
       it : Stands t o.order.shape (tickets_in image) (flattened image).same test taken_live program low i
-      it = stands t o.order.shape (tickets_in image) (flattened image).same test taken_live program low i h (omega (arith, rises))
+      it = next_stands t o.order.shape (tickets_in image) (flattened image).same test taken_live program low after i next
 
       abbrev n : Name
       n = name_of (program / 8) (program % 8) (number i)
@@ -97,13 +97,13 @@ module _ (image : List ℕ) (program : ℕ) where
       pub taken_more : taken_to (number i) ≡ taken_to after ++ name_in image p ∷ []
       taken_more =
           let named : name_in image p ≡ n = ap (name_in image) (sym it.place) ∙ name_there image n live in
-          next_name t o.order.shape (tickets_in image) (flattened image).same test taken_live program low after i next h
+          next_name t o.order.shape (tickets_in image) (flattened image).same test taken_live program low after i next
           ∙ ap (λ (x : Name). taken_to after ++ x ∷ []) (sym named)
 
       pub sheets_more : sheets_of t (taken_to (number i)) ≡ sheets_of t (taken_to after) + (ticket_in image p).count
       unfolding total
       sheets_more =
-          let names = next_name t o.order.shape (tickets_in image) (flattened image).same test taken_live program low after i next h in
+          let names = next_name t o.order.shape (tickets_in image) (flattened image).same test taken_live program low after i next in
           let added : sheets_of t (taken_to after ++ n ∷ []) ≡ sheets_of t (taken_to after) + sheets_of t (n ∷ [])
           = total_append (λ n. (lookup t n).count) (taken_to after) (n ∷ []) in
           ap (sheets_of t) names ∙ omega (arith, added, count_there)
@@ -116,90 +116,91 @@ module _ (image : List ℕ) (program : ℕ) where
           omega (arith, added, whole)
 
 -- ---- where the loop stands
-pub record Going (image marks₀ out₀ : List ℕ) (so_far : Printing) (program : ℕ) (numbers marks out : List ℕ) (end sheets after i : ℕ) : Type 0 where
+pub record Going (image marks₀ out₀ : List ℕ) (so_far : Printing) (program : ℕ) (walk : Walk) (marks out : List ℕ) (end sheets : ℕ) : Type 0 where
   pub size : length marks ≡ length marks₀
   pub long : length out ≡ length out₀
-  pub is : numbers ≡ grants image program
-  pub given : after ≤ last image program
-  pub next : NextAbove numbers after i
-  pub text : Visited (decode image) 0 (taken_to image program after) marks₀ marks out₀ out so_far.end end
-  pub sum : sheets ≡ so_far.sheets + sheets_of (decode image) (taken_to image program after)
+  pub is : walk.numbers ≡ grants image program
+  pub given : walk.after ≤ last image program
+  pub text : Visited (decode image) 0 (taken_to image program walk.after) marks₀ marks out₀ out so_far.end end
+  pub sum : sheets ≡ so_far.sheets + sheets_of (decode image) (taken_to image program walk.after)
 
-pub going_none : (image marks out : List ℕ) (so_far : Printing) (program : ℕ) (numbers : List ℕ) (i : ℕ) → numbers ≡ grants image program
-    → NextAbove numbers 0 i → Going image marks out so_far program numbers marks out so_far.end so_far.sheets 0 i
+pub going_none : (image marks out : List ℕ) (so_far : Printing) (program : ℕ) (numbers : List ℕ) (walk : Walk) → numbers ≡ grants image program
+    → walk ≡ record { numbers = numbers; after = 0 } → Going image marks out so_far program walk marks out so_far.end so_far.sheets
 unfolding total
-going_none image marks out so_far program numbers i is next = record {
-  size = refl;
-  long = refl;
-  is = is;
-  given = omega arith;
-  next = next;
-  text = visited_as (decode image) 0 _ _ marks marks out out _ _ (sym (taken_none image program)) (visited_none (decode image) 0 marks out so_far.end);
-  sum = omega (arith, ap (sheets_of (decode image)) (taken_none image program));
-}
+going_none image marks out so_far program numbers walk is start =
+    subst (λ (w : Walk). Going image marks out so_far program w marks out so_far.end so_far.sheets) (sym start)
+    (record {
+      size = refl;
+      long = refl;
+      is = is;
+      given = omega arith;
+      text = visited_as (decode image) 0 _ _ marks marks out out _ _ (sym (taken_none image program)) (visited_none (decode image) 0 marks out so_far.end);
+      sum = omega (arith, ap (sheets_of (decode image)) (taken_none image program));
+    })
 
-module _ (image marks₀ out₀ : List ℕ) (so_far : Printing) (program : ℕ) (numbers marks out : List ℕ) (end sheets after i : ℕ)
-    (g : Going image marks₀ out₀ so_far program numbers marks out end sheets after i) (ready : Ready image marks₀ so_far.end) (low : program < 32)
+module _ (image marks₀ out₀ : List ℕ) (so_far : Printing) (program : ℕ) (walk : Walk) (marks out : List ℕ) (end sheets : ℕ)
+    (g : Going image marks₀ out₀ so_far program walk marks out end sheets) (ready : Ready image marks₀ so_far.end) (low : program < 32)
     (few : so_far.sheets + sheets_of (decode image) (taken_of (decode image) program) ≤ 256) where
-  next_grant : NextAbove (grants image program) after i
-  next_grant = subst (λ (l : List ℕ). NextAbove l after i) g.is g.next
-
   shallow : 0 + unmarked (marked_in marks₀) ≤ 256
   shallow = omega (arith, unmarked_most (marked_in marks₀))
 
-  pub going_end : 8 ≤ i
+  pub going_end : NoneAbove walk.numbers walk.after
       → Puts (decode image) (taken_of (decode image) program) marks₀ marks out₀ out so_far (record { end = end; sheets = sheets })
-  going_end h =
-      let all = taken_all image program ready.tables low after i next_grant h g.given in
+  going_end none =
+      let none_here = subst (λ (l : List ℕ). NoneAbove l walk.after) g.is none in
+      let all = taken_all image program ready.tables low walk.after none_here g.given in
       record {
         text = visited_as (decode image) 0 _ _ marks₀ marks out₀ out _ _ all g.text;
         sheets = g.sum ∙ ap (λ (names : List Name). so_far.sheets + sheets_of (decode image) names) all;
       }
 
-  module _ (h : i < 8) where
+  module _ (i : ℕ) (walk' : Walk) (step : NextPlace walk (Some i) walk') where
+    next : NextAbove (grants image program) walk.after i
+    next = subst (λ (l : List ℕ). NextAbove l walk.after i) g.is step.0
+
     abbrev now : ℕ
-    now = get_or numbers i 0
+    now = get_or walk.numbers i 0
 
     is_number : now ≡ get_or (grants image program) i 0
     is_number = ap (λ (l : List ℕ). get_or l i 0) g.is
 
-    pub going_rises : after < now
-    going_rises = omega (arith, is_number, rises image program ready.tables low after i next_grant h)
-
-    pub going_given : now ≤ last image program
-    going_given = omega (arith, is_number, given_next image program ready.tables low after i next_grant h)
-
     pub going_sheets : sheets + (ticket_in image (8 * program + i)).count ≤ 256
     going_sheets =
-        omega (arith, g.sum, few, sheets_more image program ready.tables low after i next_grant h, sheets_most image program ready.tables low after i next_grant h)
+        omega (
+          arith,
+          g.sum,
+          few,
+          sheets_more image program ready.tables low walk.after i next,
+          sheets_most image program ready.tables low walk.after i next,
+        )
 
     pub going_fits : Fits image marks end 0 (8 * program + i)
     going_fits = record {
       tables = ready.tables;
-      grant = grant_there image program ready.tables low after i next_grant h;
+      grant = grant_there image program ready.tables low walk.after i next;
       scratch = g.size ∙ ready.scratch;
-      room = room_left (decode image) 0 ready.tables.order (taken_to image program after) (taken_listed_lem image program ready.tables after) marks₀ marks
-          out₀ out so_far.end end g.text shallow ready.room;
+      room = room_left (decode image) 0 ready.tables.order (taken_to image program walk.after) (taken_listed_lem image program ready.tables walk.after)
+          marks₀ marks out₀ out so_far.end end g.text shallow ready.room;
       shallow = omega (arith, unmarked_most (marked_in marks));
     }
 
-    pub going_more : (j : ℕ) → NextAbove numbers now j → (count : ℕ) → count ≡ (ticket_in image (8 * program + i)).count
+    pub going_more : (count : ℕ) → count ≡ (ticket_in image (8 * program + i)).count
         → (marks' out' : List ℕ) (r : ℕ) → length marks' ≡ length marks → length out' ≡ length out
         → Printed (λ left. visit (decode image) left 0 (marked_in marks) (name_in image (8 * program + i))) marks marks' out out' end r
-        → Going image marks₀ out₀ so_far program numbers marks' out' r (sheets + count) now j
-    going_more j next count is marks' out' r size long printed =
-        let more = taken_more image program ready.tables low after i next_grant h in
+        → Going image marks₀ out₀ so_far program walk' marks' out' r (sheets + count)
+    going_more count is marks' out' r size long printed =
+        let more = taken_more image program ready.tables low walk.after i next in
         let all : taken_to image program now ≡ _ = ap (taken_to image program) is_number ∙ more in
-        let added = sheets_more image program ready.tables low after i next_grant h in
+        let added = sheets_more image program ready.tables low walk.after i next in
         let added_now : sheets_of (decode image) (taken_to image program now) ≡ _ = ap (λ (k : ℕ). sheets_of (decode image) (taken_to image program k)) is_number ∙ added in
-        record {
+        subst (λ (w : Walk). Going image marks₀ out₀ so_far program w marks' out' r (sheets + count)) (sym step.1)
+        (record {
           size = size ∙ g.size;
           long = long ∙ g.long;
           is = g.is;
-          given = going_given;
-          next = next;
+          given = omega (arith, is_number, given_next image program ready.tables low walk.after i next);
           text = visited_as (decode image) 0 _ _ marks₀ marks' out₀ out' _ _ (sym all)
-              (visited_more (decode image) 0 ready.tables.order (taken_to image program after) (taken_listed_lem image program ready.tables after)
+              (visited_more (decode image) 0 ready.tables.order (taken_to image program walk.after) (taken_listed_lem image program ready.tables walk.after)
               marks₀ marks out₀ out so_far.end end g.text shallow (name_in image (8 * program + i)) marks' out' r printed);
           sum = omega (arith, g.sum, is, added_now);
-        }
+        })

@@ -70,7 +70,6 @@ abbrev pub started : ℕ → Printing
 started at = record { end = at; sheets = 0 }
 
 pub record Round (image marks₀ out₀ : List ℕ) (at : ℕ) (marks out : List ℕ) (printing : Printing) (program : ℕ) : Type 0 where
-  pub turns : program ≤ 32
   pub size : length marks ≡ length marks₀
   pub long : length out ≡ length out₀
   pub done : Puts (decode image) (grants_to (decode image) program) marks₀ marks out₀ out (started at) printing
@@ -78,7 +77,6 @@ pub record Round (image marks₀ out₀ : List ℕ) (at : ℕ) (marks out : List
 pub round_none : (image marks out : List ℕ) (at : ℕ) → Round image marks out at marks out (started at) 0
 unfolding total
 round_none image marks out at = record {
-  turns = omega arith;
   size = refl;
   long = refl;
   done = record {
@@ -95,9 +93,8 @@ module _ (image marks₀ out₀ : List ℕ) (at : ℕ) (marks out : List ℕ) (p
   shallow : 0 + unmarked (marked_in marks₀) ≤ 256
   shallow = omega (arith, unmarked_most (marked_in marks₀))
 
-  pub round_end : 32 ≤ program → Puts t (taken_grants t) marks₀ marks out₀ out (started at) printing
-  round_end h =
-      let all : program ≡ 32 = omega (arith, round.turns) in
+  pub round_end : program ≡ 32 → Puts t (taken_grants t) marks₀ marks out₀ out (started at) printing
+  round_end all =
       let names : grants_to t program ≡ taken_grants t = ap (grants_to t) all ∙ sym (grants_all t) in
       subst (λ (ns : List Name). Puts t ns marks₀ marks out₀ out (started at) printing) names round.done
 
@@ -122,7 +119,6 @@ module _ (image marks₀ out₀ : List ℕ) (at : ℕ) (marks out : List ℕ) (p
     pub round_more : (marks' out' : List ℕ) (next : Printing) → length marks' ≡ length marks → length out' ≡ length out
         → Puts t (taken_of t program) marks marks' out out' printing next → Round image marks₀ out₀ at marks' out' next (program + 1)
     round_more marks' out' next size long puts = record {
-      turns = omega arith;
       size = size ∙ round.size;
       long = long ∙ round.long;
       done = record {

@@ -21,8 +21,7 @@ fn count_at(image: &[u8], place: usize) -> u16
     requires { Ordered image.now × (place < 256) }
     ensures { result ≡ (ticket_in image.now place).count }
 {
-    let k = image_read::ticket_at(image, place);
-    k.count
+    image_read::ticket_at(image, place).count
 }
 
 // The taken grants of a program, counted over all pads, by number.
@@ -40,19 +39,12 @@ fn put_program(
     let from = PROGRAM * program;
     let mut end = before.end;
     let mut sheets = before.sheets;
-    let mut after: u16 = 0;
-    let mut i = image_numbers::next_above(&numbers, after);
-    while i < 8 {
-        after = numbers[i];
+    for i in image_numbers::by_number(numbers) {
         let place = from + i;
-        i = image_numbers::next_above(&numbers, after);
-        sheets = sheets + count_at(image, place);
+        sheets += count_at(image, place);
         end = text_loans::put_ticket(image, marks, out, end, 0, place);
     }
-    Printing {
-        end: end,
-        sheets: sheets,
-    }
+    Printing { end, sheets }
 }
 
 // Those of all programs, by pad and program.
@@ -61,10 +53,8 @@ pub fn put_taken(image: &[u8], marks: &mut [u8], out: &mut [u8], at: usize) -> P
     ensures { Puts (decode image.now) (taken_grants (decode image.now)) marks.old marks.new out.old out.new (record { end = at; sheets = 0 }) result }
 {
     let mut printing = Printing { end: at, sheets: 0 };
-    let mut program: usize = 0;
-    while program < 32 {
+    for program in 0..32 {
         printing = put_program(image, marks, out, printing, program);
-        program = program + 1;
     }
     printing
 }

@@ -2,15 +2,16 @@
 use Prim.Native.Nat.{ℕ, ◌+◌, ◌*◌, ◌/◌, ◌%◌, ◌≤◌, ◌<◌}
 use native.Mathlib.Omega.{arith}
 use mathlib.Core.Path.{◌≡◌, refl, sym, ap, subst, ◌∙◌}
-use mathlib.Core.Bool.{Bool, true, false}
+use mathlib.Core.Bool.{Bool, true}
 use mathlib.Core.List.{List, [], ◌∷◌, ◌++◌, map, map-append, append-nil}
 use lib.Dec.{eqb}
 use lib.ListN.{get_or}
 use borrow.Author.Tests.{eqb-true}
+use Rattle.std.specs.Prelude.{Some, None}
 use Rattle.lists.specs.Lists.{keep}
 use Rattle.lists.specs.Parts.{tabulate}
 use Rattle.lists.specs.Members.{In}
-use Rattle.lists.proofs.Tests.{Case, pass, fail, case, and_l, and_r}
+use Rattle.lists.proofs.Tests.{and_l, and_r}
 use Rattle.lists.proofs.MemberLaws.{kept, keep_append}
 use Rattle.tables.specs.declared.{Name.Name, Ticket.Ticket, Tables.Tables}
 use Rattle.tables.specs.Kinds.{is_live, is_recall}
@@ -22,14 +23,13 @@ use Rattle.tables.proofs.NameLaws.{name_eq}
 use Rattle.tables.proofs.ByNumber.{names_to}
 use Rattle.image.specs.Image.{decode}
 use Rattle.image_read.specs.Places.{tickets_in}
-use Rattle.image_places.proofs.Kept.{kept_low}
-use Rattle.image_find.proofs.Laws.{flattened, decoded_sized}
-use Rattle.image_numbers.specs.Numbers.{numbers_in, NextAbove}
-use Rattle.image_numbers.proofs.ByNumber.{Stands, stands, next_above, next_name, next_none}
+use Rattle.image_find.proofs.Laws.{flattened}
+use Rattle.image_numbers.specs.Numbers.{numbers_in, NoneAbove, NextAbove}
+use Rattle.image_numbers.proofs.ByNumber.{Stands, next_stands, next_name, next_none}
 use Rattle.report.specs.Rows.{is_listed, loans_of}
 use Rattle.report.proofs.Depth.{listed_grant}
 use Rattle.text_loans.specs.Walk.{Ordered, ticket_in, name_in, Kept, Listed, Lending, listed_place}
-use Rattle.text_loans.proofs.Places.{name_there, ticket_there, kept_of, listed_of}
+use Rattle.text_loans.proofs.Places.{name_there, ticket_there, kept_of, listed_of, place_listed, place_other}
 
 recall_live : (own : ℕ) (k : Ticket) → is_recall_of own k ≡ true → is_live k.kind ≡ true
 unfolding is_recall_of
@@ -75,26 +75,23 @@ module _ (image : List ℕ) (place : ℕ) where
   unfolding loans_to
   loans_listed k q i = (kept (is_listed t) q (map target (names_to test t (program / 8) (program % 8) k)) i).passes
 
-  module _ (o : Ordered image) (grant : Listed image place) (after i : ℕ) (next : NextAbove recalls after i) where
+  module _ (o : Ordered image) (grant : Listed image place) where
     low : program < 32
     low = omega (arith, grant.here.low)
 
     on : program / 8 ≡ place / 64
     on = omega arith
 
-    pub loans_all : 8 ≤ i → after ≤ last → loans_to after ≡ loans_of t n
+    pub loans_all : (after : ℕ) → NoneAbove recalls after → after ≤ last → loans_to after ≡ loans_of t n
     unfolding loans_to loans_of
-    loans_all h given =
-        let all = next_none t o.order.shape (tickets_in image) (flattened image).same test (recall_live n.number) program low after i next h given in
+    loans_all after none given =
+        let all = next_none t o.order.shape (tickets_in image) (flattened image).same test (recall_live n.number) program low after none given in
         ap (λ (names : List Name). keep (is_listed t) (map target names)) (sym all)
         ∙ ap (λ (pad : ℕ). keep (is_listed t) (map target (names_of test t pad n.program))) on
 
-    module _ (h : i < 8) where
-      pub rises : after < number i
-      rises = next_above t o.order.shape (tickets_in image) (flattened image).same test (recall_live n.number) program low after i next h
-
+    module _ (after i : ℕ) (next : NextAbove recalls after i) where
       it : Stands t o.order.shape (tickets_in image) (flattened image).same test (recall_live n.number) program low i
-      it = stands t o.order.shape (tickets_in image) (flattened image).same test (recall_live n.number) program low i h (omega (arith, rises))
+      it = next_stands t o.order.shape (tickets_in image) (flattened image).same test (recall_live n.number) program low after i next
 
       -- its name, and what it is
       abbrev r : Name
@@ -135,55 +132,31 @@ module _ (image : List ℕ) (place : ℕ) where
       abbrev q : Name
       q = target r
 
+      place_is : listed_place t (ticket_in image p).other ≡ listed_place t q
+      place_is = ap (λ (k : Ticket). listed_place t k.other) ticket
+
       loans_more : loans_to (number i) ≡ loans_to after ++ keep (is_listed t) (q ∷ [])
       unfolding loans_to
       loans_more =
           let names = names_to test t (program / 8) (program % 8) after in
           ap (λ (ns : List Name). keep (is_listed t) (map target ns))
-          (next_name t o.order.shape (tickets_in image) (flattened image).same test (recall_live n.number) program low after i next h)
+          (next_name t o.order.shape (tickets_in image) (flattened image).same test (recall_live n.number) program low after i next)
           ∙ ap (keep (is_listed t)) (map-append target names (r ∷ [])) ∙ keep_append (is_listed t) (map target names) (q ∷ [])
 
-      module _ (loan : ℕ) (is : loan ≡ listed_place t (ticket_in image p).other) where
-        place_is : loan ≡ listed_place t q
-        place_is = is ∙ ap (λ (k : Ticket). listed_place t k.other) ticket
+      module _ (loan : ℕ) (is : Some loan ≡ listed_place t (ticket_in image p).other) where
+        there : (is_listed t q ≡ true) × (loan ≡ place_of t q)
+        there = place_listed image q loan (is ∙ place_is)
 
-        data Outcome : Type 0 where
-          listed : is_listed t q ≡ true → loan ≡ place_of t q → loan < 256 → Outcome
-          left_out : is_listed t q ≡ false → loan ≡ 256 → Outcome
+        pub loan_listed : Listed image loan
+        loan_listed = subst (Listed image) (sym there.1) (listed_of image o.order q there.0)
 
-        outcome : Outcome
-        unfolding listed_place
-        outcome = go (case (is_listed t q))
-          where
-            go : Case (is_listed t q) → Outcome
-            go (pass e) =
-                let there : loan ≡ place_of t q = place_is ∙ rw e refl in
-                let there_low = kept_low t (decoded_sized image) q (live_grant (lookup t q).kind (listed_grant t o.order q e)) in
-                listed e there (omega (arith, there, there_low))
-            go (fail e) = left_out e (place_is ∙ rw e refl)
-
-        pub loan_more : loan < 256 → loans_to (number i) ≡ loans_to after ++ name_in image loan ∷ []
+        pub loan_more : loans_to (number i) ≡ loans_to after ++ name_in image loan ∷ []
         unfolding keep
-        loan_more below = go outcome
-          where
-            go : Outcome → loans_to (number i) ≡ loans_to after ++ name_in image loan ∷ []
-            go (left_out e w) = absurd (omega (arith, below, w))
-            go (listed e there w) =
-                let l = live_grant (lookup t q).kind (listed_grant t o.order q e) in
-                let same : name_in image loan ≡ q = ap (name_in image) there ∙ name_there image q l in
-                (rw e at loans_more) ∙ ap (λ (x : Name). loans_to after ++ x ∷ []) (sym same)
+        loan_more =
+            let l = live_grant (lookup t q).kind (listed_grant t o.order q there.0) in
+            let same : name_in image loan ≡ q = ap (name_in image) there.1 ∙ name_there image q l in
+            (rw there.0 at loans_more) ∙ ap (λ (x : Name). loans_to after ++ x ∷ []) (sym same)
 
-        pub loan_listed : loan < 256 → Listed image loan
-        loan_listed below = go outcome
-          where
-            go : Outcome → Listed image loan
-            go (left_out e w) = absurd (omega (arith, below, w))
-            go (listed e there w) = subst (Listed image) (sym there) (listed_of image o.order q e)
-
-        pub loan_none : 256 ≤ loan → loans_to (number i) ≡ loans_to after
-        unfolding keep
-        loan_none beyond = go outcome
-          where
-            go : Outcome → loans_to (number i) ≡ loans_to after
-            go (listed e there w) = absurd (omega (arith, beyond, w))
-            go (left_out e w) = (rw e at loans_more) ∙ append-nil (loans_to after)
+      pub loan_none : None ≡ listed_place t (ticket_in image p).other → loans_to (number i) ≡ loans_to after
+      unfolding keep
+      loan_none is = (rw (place_other image q (is ∙ place_is)) at loans_more) ∙ append-nil (loans_to after)

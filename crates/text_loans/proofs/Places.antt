@@ -7,6 +7,7 @@ use mathlib.Core.List.{List, [], ◌∷◌}
 use lib.Dec.{ltb}
 use lib.ListN.{get_or}
 use borrow.Author.Tests.{ltb-true, ltb-false}
+use Rattle.std.specs.Prelude.{Some, None}
 use Rattle.lists.specs.Lists.{first_index}
 use Rattle.lists.proofs.Tests.{Case, pass, fail, case, and_l}
 use Rattle.lists.proofs.Search.{find_passes}
@@ -128,10 +129,19 @@ module _ (image : List ℕ) where
             ∙ far_gone t order n recall (λ near. far (ap (λ (x : Name). x.pad) (sym same_target) ∙ near))
             (ap (λ (x : Entry). x.live) at ∙ entry_gone target r e (ltb-false r 256 h)))
 
-  pub place_listed : (n : Name) → is_listed t n ≡ true → place_of t n ≡ listed_place t n
+  -- ---- the place of what is listed
+  pub place_listed : (n : Name) (r : ℕ) → Some r ≡ listed_place t n → (is_listed t n ≡ true) × (r ≡ place_of t n)
   unfolding listed_place
-  place_listed n e = rw e
+  place_listed n r e = go (case (is_listed t n))
+    where
+      go : Case (is_listed t n) → (is_listed t n ≡ true) × (r ≡ place_of t n)
+      go (pass l) = let same : Some r ≡ Some (place_of t n) = e ∙ rw l refl in (l, cc)
+      go (fail l) = let other : Some r ≡ None = e ∙ rw l refl in absurd cc
 
-  pub place_other : (n : Name) → is_listed t n ≡ false → 256 ≡ listed_place t n
+  pub place_other : (n : Name) → None ≡ listed_place t n → is_listed t n ≡ false
   unfolding listed_place
-  place_other n e = rw e
+  place_other n e = go (case (is_listed t n))
+    where
+      go : Case (is_listed t n) → is_listed t n ≡ false
+      go (pass l) = let other : None ≡ Some (place_of t n) = e ∙ rw l refl in absurd cc
+      go (fail l) = l

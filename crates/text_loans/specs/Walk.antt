@@ -1,6 +1,6 @@
 -- What the walk over a ticket and its loans is lent and leaves. It prints what `visit` says (report/specs/Marked); the tables are in order, so
 -- that this is the report.
-use Rattle.std.specs.Prelude.{ℕ, ◌+◌, ◌*◌, ◌≤◌, ◌<◌, ◌≡◌, true, cond, List, length, get_or}
+use Rattle.std.specs.Prelude.{ℕ, ◌+◌, ◌*◌, ◌≤◌, ◌<◌, ◌≡◌, true, cond, Option, Some, None, List, length, get_or}
 use Rattle.tables.specs.declared.{Name.Name, Ticket.Ticket, Tables.Tables}
 use Rattle.tables.specs.Kinds.{is_recall}
 use Rattle.tables.specs.Names.{free}
@@ -44,9 +44,9 @@ pub record Lending (image : List ℕ) (place : ℕ) : Type 0 where
   pub recall : is_recall (ticket_in image place).kind ≡ true
   pub lender : is_listed (decode image) (own_name (name_in image place) (ticket_in image place)) ≡ true
 
--- where a name's ticket is kept, if it is listed; otherwise 256
-unfoldable pub listed_place : Tables → Name → ℕ
-listed_place t n = cond (is_listed t n) (place_of t n) 256
+-- where a name's ticket is kept, if it is listed
+unfoldable pub listed_place : Tables → Name → Option ℕ
+listed_place t n = cond (is_listed t n) (Some (place_of t n)) None
 
 -- ---- the walk
 -- a line for each place that is not marked has room, and a depth more for each is no more than there are places

@@ -26,10 +26,17 @@ fn put_row(image: &[u8], out: &mut [u8], at: usize, depth: u16, place: usize) ->
     ensures { Appends (row_line (decode image.now) (row_of depth (name_in image.now place))) out.old out.new at result }
 {
     let k = image_read::ticket_at(image, place);
-    let rights = k.rights;
     let pad = (place / PAD) as u16;
     let program = (place / PROGRAM % 8) as u16;
-    let values = [depth, pad, program, k.number, k.first, k.count, rights.bits];
+    let values = [
+        depth,
+        pad,
+        program,
+        k.number,
+        k.first,
+        k.count,
+        k.rights.bits,
+    ];
     text::append_values(out, at, &values)
 }
 
@@ -39,24 +46,22 @@ fn is_listed(image: &[u8], place: usize) -> bool
     requires { Ordered image.now × Lending image.now place }
     ensures { result ≡ is_listed (decode image.now) (ticket_in image.now place).other }
 {
-    let k = image_read::ticket_at(image, place);
-    let target = k.other;
-    if image_places::wide(target.pad) == place / PAD {
-        return true;
-    }
-    image_find::entry_place(image, target) < NO_PLACE
+    let target = image_read::ticket_at(image, place).other;
+    usize::from(target.pad) == place / PAD || image_find::entry_place(image, target) < NO_PLACE
 }
 
-// The place of the target of the recall at a place, if it is listed; otherwise no place.
-fn loan_place(image: &[u8], place: usize) -> usize
+// The place of the target of the recall at a place, if it is listed.
+#[tactic(auto, unfolding(crate::specs::Walk::listed_place))]
+fn loan_place(image: &[u8], place: usize) -> Option<usize>
     requires { Ordered image.now × Lending image.now place }
     ensures { result ≡ listed_place (decode image.now) (ticket_in image.now place).other }
 {
-    if !is_listed(image, place) {
-        return NO_PLACE;
+    if is_listed(image, place) {
+        let k = image_read::ticket_at(image, place);
+        Some(image_find::ticket_place(image, k.other))
+    } else {
+        None
     }
-    let k = image_read::ticket_at(image, place);
-    image_find::ticket_place(image, k.other)
 }
 
 // The numbers of the recalls under the grant at a place, by the places of its program; 0 in the others.
@@ -105,13 +110,8 @@ fn put_loans(
     let numbers = loan_numbers(image, place);
     let from = PROGRAM * (place / PROGRAM);
     let mut total = at;
-    let mut after: u16 = 0;
-    let mut i = image_numbers::next_above(&numbers, after);
-    while i < 8 {
-        after = numbers[i];
-        let loan = loan_place(image, from + i);
-        i = image_numbers::next_above(&numbers, after);
-        if loan < NO_PLACE {
+    for i in image_numbers::by_number(numbers) {
+        if let Some(loan) = loan_place(image, from + i) {
             total = put_ticket(image, marks, out, total, depth, loan);
         }
     }

@@ -51,7 +51,7 @@ module _ (image : List ℕ) where
   live_here j low = ap (λ (e : Entry). e.live) (entry_here image j low) ∙ ap (λ (n : ℕ). eqb n 1) (number_drop (entry_start j) image)
 
   module _ (j said : ℕ) (low : j < 256) (e : said ≡ number_at (entry_start j) image) where
-    pub is_live_lem : said ≡ 1 → (at j).live ≡ true
+    is_live_lem : said ≡ 1 → (at j).live ≡ true
     is_live_lem one = live_here j low ∙ eq-eqb (number_at (entry_start j) image) 1 (sym e ∙ one)
 
     pub not_live : (said ≡ 1 → ⊥) → (at j).live ≡ false
@@ -65,14 +65,12 @@ module _ (image : List ℕ) where
     pub there : place j ≡ p
 
   pub record NotesTo (notes : List ℕ) (i : ℕ) : Type 0 where
-    pub turns : i ≤ 256
     pub long : length notes ≡ 256
     pub noted : (j : ℕ) → j < i → (at j).live ≡ true → get_or notes (place j) 0 ≡ j
     pub noter : (p : ℕ) → p < 256 → get_or notes p 0 < 256 → Noter i p (get_or notes p 0)
 
   pub notes_none : (notes : List ℕ) → notes ≡ replicate {A = ℕ} 256 256 → NotesTo notes 0
   notes_none notes e = record {
-    turns = omega arith;
     long = long;
     noted = λ j h. absurd (omega (arith, h));
     noter = λ p low h. absurd (omega (arith, h, nothing p low));
@@ -89,7 +87,6 @@ module _ (image : List ℕ) where
 
   pub notes_skip : (notes : List ℕ) (i : ℕ) → NotesTo notes i → i < 256 → (at i).live ≡ false → NotesTo notes (i + 1)
   notes_skip notes i so h gone = record {
-    turns = omega arith;
     long = so.long;
     noted = below_more (λ j. (at j).live ≡ true → get_or notes (place j) 0 ≡ j) i so.noted (λ l. contradiction l gone);
     noter = λ p low b. later i p (get_or notes p 0) (so.noter p low b);
@@ -121,7 +118,7 @@ module _ (image : List ℕ) where
       live : is_live (lookup t n).kind ≡ true
       live = live_head (lookup t n).kind head
 
-      pub place_low_lem : place j < 256
+      place_low_lem : place j < 256
       place_low_lem = all_low t o.order n live
 
     place_once : (i j : ℕ) → i < 256 → j < 256 → (at i).live ≡ true → (at j).live ≡ true → place i ≡ place j → i ≡ j
@@ -132,12 +129,28 @@ module _ (image : List ℕ) where
         o.order.shape.distinct_entries i j (omega (arith, h, long i h l)) (omega (arith, k, long j k m)) (ap (λ (x : Entry). x.live) (sym a) ∙ l)
         (ap (λ (x : Entry). x.live) (sym b) ∙ m) (ap (λ (x : Entry). x.name) (sym a) ∙ same ∙ ap (λ (x : Entry). x.name) b)
 
-    module _ (notes : List ℕ) (i : ℕ) (so : NotesTo notes i) (h : i < 256) (l : (at i).live ≡ true) (p : ℕ) (is : p ≡ place i) where
-      low : p < 256
-      low = omega (arith, is, place_low_lem i h l)
+    -- as the code reads it, with its grant's place
+    pub record Read (i p : ℕ) : Type 0 where
+      pub live : (at i).live ≡ true
+      pub is : p ≡ place i
+      pub low : p < 256
+
+    pub read : (i said p : ℕ) (e : Entry) → i < 256 → said ≡ number_at (entry_start i) image → said ≡ 1 → e ≡ at i → p ≡ place_of t e.name
+        → Read i p
+    read i said p e h r one is_entry is_place =
+        let live : (at i).live ≡ true = is_live_lem i said h r one in
+        let is : p ≡ place i = is_place ∙ ap (λ (x : Entry). place_of t x.name) is_entry in
+        record { live = live; is = is; low = omega (arith, is, place_low_lem i h live) }
+
+    module _ (notes : List ℕ) (i : ℕ) (so : NotesTo notes i) (h : i < 256) (p : ℕ) (it : Read i p) where
+      l : (at i).live ≡ true
+      l = it.live
+
+      is : p ≡ place i
+      is = it.is
 
       new : get_or (set notes p i) p 0 ≡ i
-      new = get_or-set_same notes p i 0 (omega (arith, so.long, low))
+      new = get_or-set_same notes p i 0 (omega (arith, so.long, it.low))
 
       old : (q : ℕ) → (q ≡ p → ⊥) → get_or (set notes p i) q 0 ≡ get_or notes q 0
       old q ne = get_or-set_other notes p q i 0 ne
@@ -157,7 +170,6 @@ module _ (image : List ℕ) where
 
       pub notes_more : NotesTo (set notes p i) (i + 1)
       notes_more = record {
-        turns = omega arith;
         long = length-set notes p i ∙ so.long;
         noted = below_more (λ j. (at j).live ≡ true → get_or (set notes p i) (place j) 0 ≡ j) i before
             (λ m. ap (λ (x : ℕ). get_or (set notes p i) x 0) (sym is) ∙ new);

@@ -12,6 +12,7 @@ ghost use Rattle.text_loans.specs.Walk.{Ordered, ticket_in};
 ghost use Rattle.text_notes.specs.Notes.{Noted};
 
 use image_places::PROGRAM;
+use std::array;
 
 // No place: one above the highest.
 const NO_PLACE: u16 = 256;
@@ -21,15 +22,11 @@ pub fn note_entries(image: &[u8], notes: &mut [u16])
     requires { Ordered image.now × (notes.old ≡ replicate 256 256) }
     ensures { Noted image.now notes.new }
 {
-    let mut i: usize = 0;
-    while i < 256 {
-        let at = i;
-        let live = image_read::live_at(image, at);
-        i = i + 1;
-        if live == 1 {
-            let e = image_read::entry_at(image, at);
+    for i in 0..256 {
+        if image_read::live_at(image, i) == 1 {
+            let e = image_read::entry_at(image, i);
             let p = image_find::ticket_place(image, e.name);
-            notes[p] = at as u16;
+            notes[p] = i as u16;
         }
     }
 }
@@ -39,11 +36,11 @@ fn noted_number(image: &[u8], notes: &[u16], place: usize) -> u16
     requires { Ordered image.now × (Noted image.now notes.now × (place < 256)) }
     ensures { result ≡ number_if (has_entry (decode image.now)) (ticket_in image.now place) }
 {
-    if NO_PLACE <= notes[place] {
-        return 0;
+    if notes[place] < NO_PLACE {
+        image_read::ticket_at(image, place).number
+    } else {
+        0
     }
-    let k = image_read::ticket_at(image, place);
-    k.number
 }
 
 // The numbers of a program's grants that have an entry, each in its place.
@@ -51,12 +48,5 @@ pub fn entry_numbers(image: &[u8], notes: &[u16], program: usize) -> [u16; 8]
     requires { Ordered image.now × (Noted image.now notes.now × (program < 32)) }
     ensures { result ≡ numbers_in (has_entry (decode image.now)) (tickets_in image.now) program }
 {
-    let from = PROGRAM * program;
-    let mut numbers = [0u16; 8];
-    let mut i: usize = 0;
-    while i < 8 {
-        numbers[i] = noted_number(image, notes, from + i);
-        i = i + 1;
-    }
-    numbers
+    array::from_fn(|i| noted_number(image, notes, PROGRAM * program + i))
 }

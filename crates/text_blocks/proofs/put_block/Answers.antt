@@ -32,8 +32,8 @@ put_entries-requires c =
     let is = block_entries (decode c.args.image.now) m (omega arith) in
     (c.requires.0, ((c.requires.1.0.0, omega arith), block_room _ m _ is _ c.requires.1.1))
 
-pub returns : goal.returns
-returns c =
+pub returns-else-m-lt160 : goal.returns-else-m-lt160
+returns-else-m-lt160 c =
     let m = c.args.m in
     let is = block_entries (decode c.args.image.now) m (omega arith) in
     block_put _ m _ is _ _ _ _ c.put_entries.ensures

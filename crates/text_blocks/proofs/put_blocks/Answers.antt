@@ -1,4 +1,5 @@
 -- The lines of the blocks below m are put.
+use native.Mathlib.Omega.{arith}
 use Rattle.text_blocks.proofs.Rounds.{round_none, round_end, round_room, round_more}
 use Rattle.text_blocks.proofs.put_blocks.Goals as goal
 
@@ -14,8 +15,5 @@ pub loop-m-preserved : goal.loop-m-preserved
 loop-m-preserved c =
     round_more _ _ _ _ _ _ c.loop-m.invariant c.loop-m-test.true _ _ c.put_block-end.ensures
 
-pub shape_of-out : goal.shape_of-out
-shape_of-out c = c.loop-m.invariant.long
-
 pub returns : goal.returns
-returns c = round_end _ _ _ _ _ _ c.loop-m.invariant c.loop-m-test.false
+returns c = round_end _ _ _ _ _ _ c.loop-m.invariant (omega arith)

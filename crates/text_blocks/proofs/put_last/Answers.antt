@@ -3,9 +3,6 @@ use Rattle.text_blocks.proofs.RowLaws.{last_row_lem}
 use Rattle.text_blocks.proofs.Lines.{line_room_lem, line_put}
 use Rattle.text_blocks.proofs.put_last.Goals as goal
 
-pub last_at-last-requires : goal.last_at-last-requires
-last_at-last-requires c = (c.requires.0.long, c.requires.1.0)
-
 pub append_row-requires : goal.append_row-requires
 append_row-requires c =
     let is = c.number_row-row.ensures ∙ last_row_lem c.args.image.now c.args.program _ c.requires.1.0 c.last_at-last.ensures in

@@ -4,9 +4,6 @@ use Rattle.saved.specs.Save.{ticket_row}
 use Rattle.text_blocks.proofs.Lines.{line_room_lem, line_put}
 use Rattle.text_blocks.proofs.put_ticket.Goals as goal
 
-pub ticket_at-k-requires : goal.ticket_at-k-requires
-ticket_at-k-requires c = (c.requires.0.long, c.requires.1.0)
-
 pub append_row-requires : goal.append_row-requires
 append_row-requires c =
     let place = c.args.place in

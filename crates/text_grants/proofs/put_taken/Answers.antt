@@ -1,4 +1,5 @@
 -- The taken grants of the programs below `program` are printed.
+use native.Mathlib.Omega.{arith}
 use Rattle.text_grants.proofs.Programs.{round_none, round_end, round_ready, round_few, round_more}
 use Rattle.text_grants.proofs.put_taken.Goals as goal
 
@@ -18,14 +19,6 @@ loop-program-preserved c =
     let p = c.put_program-printing in
     round_more _ _ _ _ _ _ _ _ c.loop-program.invariant c.requires c.loop-program-test.true _ _ _ p.auto.marks p.auto.out p.ensures
 
-pub shape_of-marks : goal.shape_of-marks
-shape_of-marks c =
-    c.loop-program.invariant.size
-
-pub shape_of-out : goal.shape_of-out
-shape_of-out c =
-    c.loop-program.invariant.long
-
 pub returns : goal.returns
 returns c =
-    round_end _ _ _ _ _ _ _ _ c.loop-program.invariant c.requires c.loop-program-test.false
+    round_end _ _ _ _ _ _ _ _ c.loop-program.invariant c.requires (omega arith)

@@ -7,65 +7,38 @@ use Rattle.image.specs.Image.{decode}
 use Rattle.text_marks.specs.Marks.{marked_in, with_mark, unmarked}
 use Rattle.text_loans.specs.Walk.{name_in}
 use Rattle.text_loans.proofs.Steps.{already, line_and_loans}
-use Rattle.text_loans.proofs.Going.{going_none, going_fewer, going_end, going_rises, going_given}
-use Rattle.text_loans.proofs.Going.{going_lending, going_fits, going_more, going_past, less, line_fits, loans_fit}
+use Rattle.text_loans.proofs.Going.{going_none, going_fewer, going_end, going_past}
+use Rattle.text_loans.proofs.Going.{going_lending, going_fits, going_more, less, line_fits, loans_fit}
 use Rattle.text_loans.proofs.+put_loans_put_ticket.Goals as goal
 
 pub put_loans-loop-i-init : goal.put_loans-loop-i-init
 put_loans-loop-i-init t c =
     let a = c.args in
-    going_none a.image.now a.marks.now a.out.now a.at a.depth a.place _ _ c.loan_numbers-numbers.ensures c.next_above-i.ensures
+    going_none a.image.now a.marks.now a.out.now a.at a.depth a.place _ _ c.loan_numbers-numbers.ensures
+    (c.into_iter-i-iterator.ensures.into_iter_gives ∙ c.by_number-i-items.ensures)
 
-pub put_loans-loan_place-loan-requires : goal.put_loans-loan_place-loan-requires
-put_loans-loan_place-loan-requires t c =
-    (c.requires.tables, going_lending _ _ _ _ _ _ _ _ _ _ _ _ c.loop-i.invariant c.requires c.loop-i-test.true)
+pub put_loans-loan_place-requires : goal.put_loans-loan_place-requires
+put_loans-loan_place-requires t c =
+    (c.requires.tables, going_lending _ _ _ _ _ _ _ _ _ _ c.loop-i.invariant c.requires _ _ c.in-Some.ensures.steps)
 
 pub put_loans-put_ticket-total-requires : goal.put_loans-put_ticket-total-requires
 put_loans-put_ticket-total-requires t c =
     let g = c.loop-i.invariant in
-    let fewer = going_fewer _ _ _ _ _ _ _ _ _ _ _ _ g c.requires in (
-      omega (arith, fewer),
-      going_fits _ _ _ _ _ _ _ _ _ _ _ _ g c.requires c.loop-i-test.true _ _ c.loan_place-loan.ensures c.next_above-i-in-loop-i.ensures
-          c.if-loan-lt-NO_PLACE.true,
-    )
+    let fewer = going_fewer _ _ _ _ _ _ _ _ _ _ g c.requires in
+    (omega (arith, fewer), going_fits _ _ _ _ _ _ _ _ _ _ g c.requires _ _ c.in-Some.ensures.steps _ c.in-Some-loan_place.ensures)
 
-pub put_loans-loop-i-smaller-then-loan-lt-NO_PLACE : goal.put_loans-loop-i-smaller-then-loan-lt-NO_PLACE
-put_loans-loop-i-smaller-then-loan-lt-NO_PLACE t c =
-    let g = c.loop-i.invariant in
-    omega (
-      arith,
-      going_rises _ _ _ _ _ _ _ _ _ _ _ _ g c.requires c.loop-i-test.true,
-      going_given _ _ _ _ _ _ _ _ _ _ _ _ g c.requires
-          c.loop-i-test.true,
-    )
-
-pub put_loans-loop-i-preserved-then-loan-lt-NO_PLACE : goal.put_loans-loop-i-preserved-then-loan-lt-NO_PLACE
-put_loans-loop-i-preserved-then-loan-lt-NO_PLACE t c =
+pub put_loans-loop-i-preserved-in-Some-loan_place : goal.put_loans-loop-i-preserved-in-Some-loan_place
+put_loans-loop-i-preserved-in-Some-loan_place t c =
     let p = c.put_ticket-total in
-    going_more _ _ _ _ _ _ _ _ _ _ _ _ c.loop-i.invariant c.requires c.loop-i-test.true _ _ c.loan_place-loan.ensures c.next_above-i-in-loop-i.ensures
-    c.if-loan-lt-NO_PLACE.true _ _ _
+    going_more _ _ _ _ _ _ _ _ _ _ c.loop-i.invariant c.requires _ _ c.in-Some.ensures.steps _ c.in-Some-loan_place.ensures _ _ _
     p.auto.marks p.auto.out p.ensures
-
-pub put_loans-loop-i-smaller : goal.put_loans-loop-i-smaller
-put_loans-loop-i-smaller t c =
-    let g = c.loop-i.invariant in
-    omega (arith, going_rises _ _ _ _ _ _ _ _ _ _ _ _ g c.requires c.loop-i-test.true, going_given _ _ _ _ _ _ _ _ _ _ _ _ g c.requires c.loop-i-test.true)
 
 pub put_loans-loop-i-preserved : goal.put_loans-loop-i-preserved
 put_loans-loop-i-preserved t c =
-    going_past _ _ _ _ _ _ _ _ _ _ _ _ c.loop-i.invariant c.requires c.loop-i-test.true _ _ c.loan_place-loan.ensures c.next_above-i-in-loop-i.ensures c.if-loan-lt-NO_PLACE.false
-
-pub put_loans-shape_of-marks : goal.put_loans-shape_of-marks
-put_loans-shape_of-marks t c =
-    c.loop-i.invariant.size
-
-pub put_loans-shape_of-out : goal.put_loans-shape_of-out
-put_loans-shape_of-out t c =
-    c.loop-i.invariant.long
+    going_past _ _ _ _ _ _ _ _ _ _ c.loop-i.invariant c.requires _ _ c.in-Some.ensures.steps c.in_default.ensures
 
 pub put_loans-returns : goal.put_loans-returns
-put_loans-returns t c =
-    going_end _ _ _ _ _ _ _ _ _ _ _ _ c.loop-i.invariant c.requires c.loop-i-test.false
+put_loans-returns t c = going_end _ _ _ _ _ _ _ _ _ _ c.loop-i.invariant c.requires c.in-None.ensures.steps.0
 
 pub put_ticket-returns-then-is_marked : goal.put_ticket-returns-then-is_marked
 put_ticket-returns-then-is_marked t c =

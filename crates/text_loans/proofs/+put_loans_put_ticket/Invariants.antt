@@ -1,7 +1,6 @@
 -- The two call each other: the measure is twice the places that are not marked, and one more in front of the loans.
-use Prim.Native.Nat.{◌+◌, ◌-◌, ◌*◌}
+use Prim.Native.Nat.{◌+◌, ◌*◌}
 use Rattle.text_marks.specs.Marks.{marked_in, unmarked}
-use Rattle.text_loans.proofs.Loans.{last}
 use Rattle.text_loans.proofs.Going.{Going}
 use Rattle.text_loans.proofs.+put_loans_put_ticket.Given as goal
 
@@ -13,7 +12,4 @@ decreases-put_ticket l = 2 * unmarked (marked_in l.marks.now)
 
 abbrev pub invariant-put_loans-loop-i : goal.invariant-put_loans-loop-i
 invariant-put_loans-loop-i l =
-    Going l.image l.initial.marks l.initial.out l.at l.depth l.place l.numbers l.marks l.out l.total l.after l.i
-
-abbrev pub decreases-put_loans-loop-i : goal.decreases-put_loans-loop-i
-decreases-put_loans-loop-i l = last l.image l.place - l.after
+    Going l.image l.initial.marks l.initial.out l.at l.depth l.place l.i-iterator l.marks l.out l.total

@@ -1,5 +1,4 @@
 use Prim.Native.Nat.{ℕ, ◌+◌, ◌≤◌}
-use native.Mathlib.Omega.{arith}
 use mathlib.Core.Path.{sym, subst}
 use mathlib.Core.List.{List}
 use lib.ListN.{length}
@@ -7,15 +6,6 @@ use Rattle.text.specs.Appending.{highest_count}
 use Rattle.text.proofs.Appending.{append_as}
 use Rattle.text_loans.proofs.Places.{row_values}
 use Rattle.text_loans.proofs.put_row.Goals as goal
-
-pub ticket_at-k-requires : goal.ticket_at-k-requires
-ticket_at-k-requires c = (c.requires.0.long, c.requires.1.0.here.low)
-
-pub overflow_cast-pad : goal.overflow_cast-pad
-overflow_cast-pad c = omega (arith, c.requires.1.0.here.low)
-
-pub overflow_cast-program : goal.overflow_cast-program
-overflow_cast-program c = omega arith
 
 pub append_values-requires : goal.append_values-requires
 append_values-requires c =

@@ -1,10 +1,6 @@
 -- The first i entries are noted.
-use Prim.Native.Nat.{◌-◌}
 use Rattle.text_notes.proofs.Noting.{NotesTo}
 use Rattle.text_notes.proofs.note_entries.Given as goal
 
 abbrev pub invariant-loop-i : goal.invariant-loop-i
 invariant-loop-i l = NotesTo l.image l.notes l.i
-
-abbrev pub decreases-loop-i : goal.decreases-loop-i
-decreases-loop-i l = 256 - l.i

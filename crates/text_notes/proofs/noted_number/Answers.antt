@@ -4,18 +4,14 @@ use Rattle.tables.specs.declared.Ticket.{Ticket}
 use Rattle.image_numbers.specs.Numbers.{number_if}
 use Rattle.text_notes.proofs.noted_number.Goals as goal
 
-pub returns-then-notes-place-ge-NO_PLACE : goal.returns-then-notes-place-ge-NO_PLACE
+pub returns-then-notes-place-lt-NO_PLACE : goal.returns-then-notes-place-lt-NO_PLACE
 unfolding number_if
-returns-then-notes-place-ge-NO_PLACE c =
+returns-then-notes-place-lt-NO_PLACE c =
     let p = c.requires.1 in
-    rw (sym (p.0.has c.args.place p.1) ∙ le-ltb _ 256 c.if-notes-place-ge-NO_PLACE.true)
+    rw (sym (p.0.has c.args.place p.1) ∙ lt-ltb _ 256 c.if-notes-place-lt-NO_PLACE.true) (ap (λ (k : Ticket). k.number) c.ticket_at.ensures)
 
-pub ticket_at-k-requires : goal.ticket_at-k-requires
-ticket_at-k-requires c =
-    (c.requires.0.long, c.requires.1.1)
-
-pub returns : goal.returns
+pub returns-else-notes-place-lt-NO_PLACE : goal.returns-else-notes-place-lt-NO_PLACE
 unfolding number_if
-returns c =
+returns-else-notes-place-lt-NO_PLACE c =
     let p = c.requires.1 in
-    rw (sym (p.0.has c.args.place p.1) ∙ lt-ltb _ 256 c.if-notes-place-ge-NO_PLACE.false) (ap (λ (k : Ticket). k.number) c.ticket_at-k.ensures)
+    rw (sym (p.0.has c.args.place p.1) ∙ le-ltb _ 256 c.if-notes-place-lt-NO_PLACE.false)
