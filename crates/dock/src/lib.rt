@@ -10,6 +10,7 @@ ghost use Rattle.lending.specs.Report.{report_buffers, ReportsLent};
 ghost use Rattle.lending.specs.Saved.{save_buffers, SavesLent, LoadsLent};
 ghost use Rattle.lending.specs.Trace.{trace_buffers, TracesLent};
 ghost use Rattle.lending.specs.Host.{EmptiesImage, Steps, order_of, check_image};
+ghost use Rattle.machine.specs.Refusal.{said, length_said};
 ghost use Rattle.dock.specs.Version.{version};
 
 use image::IMAGE;
@@ -108,6 +109,23 @@ pub extern "C" fn dock_in_order(tables: &[u8]) -> u16
     machine::number(step::in_order(tables))
 }
 
+// What an answer that carries a length says: 0, and the length goes to `length`; or the refusal's number, and 0 goes there.
+fn put_length(length: &mut usize, done: Result<usize, Refusal>) -> u16
+    ensures answer { result ≡ said done }
+    ensures size { length.new ≡ length_said done }
+{
+    match done {
+        Ok(n) => {
+            *length = n;
+            0
+        }
+        Err(refusal) => {
+            *length = 0;
+            refusal.into()
+        }
+    }
+}
+
 // The trace of a text of requests. Its length, 0 with a refusal, goes to `length`.
 #[unsafe(no_mangle)]
 pub extern "C" fn dock_trace(
@@ -141,7 +159,7 @@ pub extern "C" fn dock_report(
 ) -> u16
     ensures { ReportsLent (report_buffers tables.now scratch.old output.old) result scratch.new output.new length.new }
 {
-    text_report::report_lent(tables, scratch, output, length)
+    put_length(length, text_report::report_lent(tables, scratch, output))
 }
 
 // The tables as text. Its length, 0 with a refusal, goes to `length`.
@@ -149,7 +167,7 @@ pub extern "C" fn dock_report(
 pub extern "C" fn dock_save(tables: &[u8], output: &mut [u8], length: &mut usize) -> u16
     ensures { SavesLent (save_buffers tables.now output.old) result output.new length.new }
 {
-    text_save::save_lent(tables, output, length)
+    put_length(length, text_save::save_lent(tables, output))
 }
 
 // The tables of a text. The store is in no text, and is not lent.

@@ -5,6 +5,7 @@
 
 ghost use Rattle.std.specs.Prelude.{◌≡◌, leb, length, replicate};
 ghost use Rattle.image.specs.Image.{decode};
+ghost use Rattle.machine.specs.Refusal.{said, length_said};
 ghost use Rattle.text.specs.Appending.{Appends};
 ghost use Rattle.text_marks.specs.Marks.{mark_bytes};
 ghost use Rattle.report.specs.Report.{report};
@@ -12,6 +13,7 @@ ghost use Rattle.lending.specs.Report.{report_buffers, ReportsLent};
 ghost use Rattle.text_loans.specs.Walk.{Ordered};
 
 use image::IMAGE;
+use machine::Refusal;
 use text_marks::MARKS;
 
 // Bytes that every report has room in.
@@ -35,7 +37,7 @@ fn put_and_clear(image: &[u8], marks: &mut [u8], out: &mut [u8]) -> usize
     ensures marks_after { marks.new ≡ replicate mark_bytes 0 }
 {
     let total = put_report(image, marks, out);
-    text_marks::clear(marks);
+    marks.fill(0);
     total
 }
 
@@ -45,33 +47,26 @@ fn fits(image: &[u8], marks: &mut [u8], room: usize) -> bool
     ensures value { result ≡ leb (length (report (decode image.now))) room }
     ensures marks_after { marks.new ≡ replicate mark_bytes 0 }
 {
-    if ROOM <= room {
-        return true;
-    }
-    let mut nothing = [0u8; 1];
-    let total = put_and_clear(image, marks, &mut nothing[..0]);
-    total <= room
+    ROOM <= room || put_and_clear(image, marks, &mut []) <= room
 }
 
-// The report of lent tables: 13, 14, 16 where the scratch has another length, 17 where the output is too short for the whole, or 0. A refusal
-// leaves the output as it was, and the length is 0. The scratch is zeros after every answer.
-pub fn report_lent(tables: &[u8], scratch: &mut [u8], output: &mut [u8], length: &mut usize) -> u16
-    ensures { ReportsLent (report_buffers tables.now scratch.old output.old) result scratch.new output.new length.new }
+// The report of lent tables, as long as the answer says, or the refusals 13, 14, 16 where the scratch has another length, 17 where the output
+// is too short for the whole. A refusal leaves the output as it was. The scratch is zeros after every answer.
+pub fn report_lent(tables: &[u8], scratch: &mut [u8], output: &mut [u8]) -> Result<usize, Refusal>
+    ensures { ReportsLent (report_buffers tables.now scratch.old output.old) (said result) scratch.new output.new (length_said result) }
 {
-    *length = 0;
-    text_marks::clear(scratch);
+    scratch.fill(0);
     if tables.len() != IMAGE {
-        return 13;
+        return Err(Refusal::Length);
     }
     if !order::image_in_order(tables) {
-        return 14;
+        return Err(Refusal::NotInOrder);
     }
     if scratch.len() != MARKS {
-        return 16;
+        return Err(Refusal::Scratch);
     }
     if !fits(tables, scratch, output.len()) {
-        return 17;
+        return Err(Refusal::TooShort);
     }
-    *length = put_and_clear(tables, scratch, output);
-    0
+    Ok(put_and_clear(tables, scratch, output))
 }

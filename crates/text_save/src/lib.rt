@@ -4,12 +4,14 @@
 
 ghost use Rattle.std.specs.Prelude.{◌≡◌, leb, length};
 ghost use Rattle.image.specs.Image.{decode};
+ghost use Rattle.machine.specs.Refusal.{said, length_said};
 ghost use Rattle.text.specs.Appending.{Appends};
 ghost use Rattle.saved.specs.Save.{saved};
 ghost use Rattle.lending.specs.Saved.{save_buffers, SavesLent};
 ghost use Rattle.text_loans.specs.Walk.{Ordered};
 
 use image::IMAGE;
+use machine::Refusal;
 
 // Bytes that every saved text has room in.
 pub const ROOM: usize = 18309;
@@ -29,29 +31,22 @@ fn fits(image: &[u8], room: usize) -> bool
     requires { Ordered image.now }
     ensures { result ≡ leb (length (saved (decode image.now))) room }
 {
-    if ROOM <= room {
-        return true;
-    }
-    let mut nothing = [0u8; 1];
-    let total = put_saved(image, &mut nothing[..0]);
-    total <= room
+    ROOM <= room || put_saved(image, &mut []) <= room
 }
 
-// The text of lent tables: 13, 14, 17 where the output is too short for the whole, or 0. A refusal leaves the output as it was, and the length
-// is 0.
-pub fn save_lent(tables: &[u8], output: &mut [u8], length: &mut usize) -> u16
-    ensures { SavesLent (save_buffers tables.now output.old) result output.new length.new }
+// The text of lent tables, as long as the answer says, or the refusals 13, 14, 17 where the output is too short for the whole. A refusal
+// leaves the output as it was.
+pub fn save_lent(tables: &[u8], output: &mut [u8]) -> Result<usize, Refusal>
+    ensures { SavesLent (save_buffers tables.now output.old) (said result) output.new (length_said result) }
 {
-    *length = 0;
     if tables.len() != IMAGE {
-        return 13;
+        return Err(Refusal::Length);
     }
     if !order::image_in_order(tables) {
-        return 14;
+        return Err(Refusal::NotInOrder);
     }
     if !fits(tables, output.len()) {
-        return 17;
+        return Err(Refusal::TooShort);
     }
-    *length = put_saved(tables, output);
-    0
+    Ok(put_saved(tables, output))
 }

@@ -8,4 +8,4 @@ use Rattle.text_report.proofs.put_and_clear.Goals as goal
 pub returns : goal.returns
 returns c =
     let size = c.put_report-total.auto.marks ∙ ap length c.requires.1 ∙ length-replicate {A = ℕ} mark_bytes 0 in
-    record { appends = c.put_report-total.ensures; marks_after = clear_scratch _ _ size c.clear.ensures }
+    record { appends = c.put_report-total.ensures; marks_after = clear_scratch _ _ size (c.fill.ensures.after (λ y e. e)) }

@@ -4,11 +4,6 @@ use Rattle.report.specs.Report.{report_names}
 use Rattle.text_report.proofs.WholeReport.{start, last_fits, put_whole}
 use Rattle.text_report.proofs.put_report.Goals as goal
 
--- GONE slice-aggregate-append
--- slice-aggregate-append : tie.Need-slice-aggregate-append
--- slice-aggregate-append c = search rules
---
-
 pub put_taken-taken-requires : goal.put_taken-taken-requires
 unfolding report_names bytes
 put_taken-taken-requires c =

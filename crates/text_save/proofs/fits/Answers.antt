@@ -1,7 +1,7 @@
 -- A room as long as every text is enough; for another the text, run to no output, tells its length.
 use Prim.Native.Nat.{ℕ}
 use native.Mathlib.Omega.{arith}
-use mathlib.Core.Path.{sym, ap}
+use mathlib.Core.Path.{sym, ap, ◌∙◌}
 use lib.Dec.{leb}
 use lib.ListN.{length}
 use borrow.Author.Tests.{le-leb}
@@ -14,9 +14,8 @@ use Rattle.text_save.proofs.fits.Goals as goal
 pub returns-then-room-ge-ROOM : goal.returns-then-room-ge-ROOM
 returns-then-room-ge-ROOM c =
     let image = c.args.image.now in
-    let short = text_short image c.requires (λ i. omega (arith, c.shared_slice_known-1.given i)) in
-    sym (le-leb (length (saved (decode image))) c.args.room (omega (arith, short, c.if-room-ge-ROOM.true)))
+    let short = text_short image c.requires (λ i. omega (arith, c.type_inv.image i)) in
+    le-leb _ _ c.if-room-ge-ROOM.true ∙ sym (le-leb (length (saved (decode image))) c.args.room (omega (arith, short, c.if-room-ge-ROOM.true)))
 
-pub returns : goal.returns
-returns c =
-    ap (λ (n : ℕ). leb n c.args.room) (measured _ _ _ _ c.put_saved-total.ensures)
+pub returns-else-room-ge-ROOM : goal.returns-else-room-ge-ROOM
+returns-else-room-ge-ROOM c = ap (λ (n : ℕ). leb n c.args.room) (measured _ _ _ _ c.put_saved.ensures)
