@@ -79,7 +79,7 @@ pub fn kind_numbers(image: &[u8], program: usize, kind: u16) -> [u16; 8]
 // ---- the walk
 
 // The place of the least number above `after`. The search keeps a place also where there is none, the length: with an Option in the loop
-// each of the eight turns leaves a branch behind, and a report takes a sixth longer.
+// each of the eight turns leaves a branch behind.
 #[tactic(auto, using(crate::proofs::Least::best_none, crate::proofs::Least::best_past, crate::proofs::Least::best_kept, crate::proofs::Least::best_new, crate::proofs::Least::best_some, crate::proofs::Least::best_end))]
 fn next_above(numbers: &[u16], after: u16) -> Option<usize>
     ensures { MatchOption result (NoneAbove numbers.now after) (NextAbove numbers.now after) }
