@@ -137,16 +137,7 @@ pub extern "C" fn dock_trace(
 ) -> u16
     ensures { TracesLent (trace_buffers tables.old store.old input.now output.old) result tables.new store.new output.new length.new }
 {
-    match text_trace::trace_lent(tables, store, input, output) {
-        Ok(n) => {
-            *length = n;
-            0
-        }
-        Err(refusal) => {
-            *length = 0;
-            refusal.into()
-        }
-    }
+    put_length(length, text_trace::trace_lent(tables, store, input, output))
 }
 
 // The ward report, by a scratch for marks, which is zeros after every answer. Its length, 0 with a refusal, goes to `length`.
