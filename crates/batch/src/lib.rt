@@ -3,7 +3,7 @@
 
 #![tactic(auto)]
 
-ghost use Rattle.std.specs.Prelude.{◌≡◌, true, length};
+ghost use Rattle.std.specs.Prelude.{◌≡◌, ◌&&◌, true, length};
 ghost use Rattle.tables.specs.Order.{in_order};
 ghost use Rattle.machine.specs.Numbers.{answer_width, answer_numbers};
 ghost use Rattle.machine.specs.Refusal.{said};
@@ -60,6 +60,17 @@ fn lengths_ok(tables: usize, store: usize, sheets: usize, requests: usize, answe
         && answers / ANSWER == n
 }
 
+// Are they an image, and its tables in order?
+#[tactic(auto, unfolding(image::specs::Image::is_image))]
+fn in_order(tables: &[u8]) -> bool
+    ensures { result ≡ (is_image tables.now && in_order (decode tables.now)) }
+{
+    match tables.as_array() {
+        Some(image) => order::image_in_order(image),
+        None => false,
+    }
+}
+
 // 13, 14, or the requests one after the other. A batch that is refused changes nothing.
 pub fn serve(
     tables: &mut [u8],
@@ -79,7 +90,7 @@ pub fn serve(
     ) {
         return Err(Refusal::Length);
     }
-    if !order::image_in_order(tables) {
+    if !in_order(tables) {
         return Err(Refusal::NotInOrder);
     }
     serve_all(tables, store, sheets, requests, answers);

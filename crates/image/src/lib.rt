@@ -49,3 +49,6 @@ pub const ENTRY: usize = 20;
 pub const ENTRIES: usize = 6208;
 
 pub const IMAGE: usize = 11328;
+
+// The tables as bytes, in memory that a host lends.
+pub type Image = [u8; IMAGE];

@@ -2,19 +2,19 @@
 
 #![tactic(auto)]
 
-ghost use Rattle.std.specs.Prelude.{◌≡◌, length};
+ghost use Rattle.std.specs.Prelude.{◌≡◌};
 ghost use Rattle.tables.specs.Lookup.{lookup};
 ghost use Rattle.tables.specs.Chains.{chain_links};
-ghost use Rattle.image.specs.Layout.{image_size};
 ghost use Rattle.image.specs.Image.{decode};
 
+use image::Image;
 use image_places::PAD;
 use tables::{Name, Ticket};
 
 // The links from the ticket k, which is named n, to the head of its chain. The ticket is at hand, so that a head's none cost no search.
 #[tactic(auto, using(crate::proofs::Walk::none_counted, crate::proofs::Walk::one_more))]
-pub fn links(image: &[u8], n: Name, k: Ticket) -> u16
-    requires { (length image.now ≡ image_size) × (lookup (decode image.now) n ≡ k) }
+pub fn links(image: &Image, n: Name, k: Ticket) -> u16
+    requires { lookup (decode image.now) n ≡ k }
     ensures { result ≡ chain_links (decode image.now) n }
 {
     let mut up = k.parent(n);

@@ -2,14 +2,14 @@
 
 #![tactic(auto)]
 
-ghost use Rattle.std.specs.Prelude.{ℕ, IfNone, IfSome, ◌≤◌, ◌/◌, ◌%◌, ◌<◌, ◌≡◌, true, false, length};
+ghost use Rattle.std.specs.Prelude.{ℕ, IfNone, IfSome, ◌≤◌, ◌/◌, ◌%◌, ◌<◌, ◌≡◌, true, false};
 ghost use Rattle.lists.specs.Lists.{first_index};
 ghost use Rattle.tables.specs.Lookup.{is_named, program_at, tickets_of, lookup, place_of, entry_of};
 ghost use Rattle.tables.specs.Change.{is_free, is_spare};
-ghost use Rattle.image.specs.Layout.{image_size};
 ghost use Rattle.image.specs.Image.{decode};
 ghost use Rattle.image_read.specs.Places.{entries_in};
 
+use image::Image;
 use image_places::{PAD, PROGRAM};
 use tables::{Entry, Name, Program, Ticket};
 
@@ -30,8 +30,7 @@ fn first_place<F: Fn(usize) -> bool>(count: usize, passes: F) -> usize
 
 // The live ticket of a name and its place. Both together: a look-up is in the inner step of every walk, and reads no ticket twice.
 #[tactic(auto, using(crate::proofs::Steps::no_program_lem, tables::proofs::NameLaws::is_program_lem))]
-fn found(image: &[u8], n: Name) -> Option<(usize, Ticket)>
-    requires { length image.now ≡ image_size }
+fn found(image: &Image, n: Name) -> Option<(usize, Ticket)>
     ensures nowhere { IfNone result (place_of (decode image.now) n ≡ 256) }
     ensures there { IfSome result (λ s. (s.0 ≡ place_of (decode image.now) n) × (s.1 ≡ lookup (decode image.now) n)) }
 {
@@ -50,8 +49,7 @@ fn found(image: &[u8], n: Name) -> Option<(usize, Ticket)>
 
 // The live ticket of a name, or the free record.
 #[tactic(auto, using(crate::proofs::Steps::ticket_nowhere))]
-pub fn ticket(image: &[u8], n: Name) -> Ticket
-    requires { length image.now ≡ image_size }
+pub fn ticket(image: &Image, n: Name) -> Ticket
     ensures { result ≡ lookup (decode image.now) n }
 {
     match found(image, n) {
@@ -61,8 +59,7 @@ pub fn ticket(image: &[u8], n: Name) -> Ticket
 }
 
 // The place of the live ticket of a name, counted over all pads and programs, or 256.
-pub fn ticket_place(image: &[u8], n: Name) -> usize
-    requires { length image.now ≡ image_size }
+pub fn ticket_place(image: &Image, n: Name) -> usize
     ensures { result ≡ place_of (decode image.now) n }
 {
     match found(image, n) {
@@ -73,16 +70,15 @@ pub fn ticket_place(image: &[u8], n: Name) -> usize
 
 // A program: its eight places for tickets and its last number.
 #[tactic(auto, using(crate::proofs::Laws::program_there))]
-pub fn program(image: &[u8], pad: u16, program: u16) -> Program
-    requires { (length image.now ≡ image_size) × ((pad < 4) × (program < 8)) }
+pub fn program(image: &Image, pad: u16, program: u16) -> Program
+    requires { (pad < 4) × (program < 8) }
     ensures { result ≡ program_at (decode image.now) pad program }
 {
     image_read::program_at(image, PROGRAM * usize::from(pad) + usize::from(program))
 }
 
 // The place of the live entry of a name, or 256.
-pub fn entry_place(image: &[u8], n: Name) -> usize
-    requires { length image.now ≡ image_size }
+pub fn entry_place(image: &Image, n: Name) -> usize
     ensures { result ≡ first_index (is_named n) (entries_in image.now) }
 {
     first_place(256, |i| image_read::entry_at(image, i).is_named(n))
@@ -90,8 +86,7 @@ pub fn entry_place(image: &[u8], n: Name) -> usize
 
 // The live entry of a name, or the free record.
 #[tactic(auto, using(crate::proofs::Steps::entry_there, crate::proofs::Steps::entry_nowhere))]
-pub fn entry(image: &[u8], n: Name) -> Entry
-    requires { length image.now ≡ image_size }
+pub fn entry(image: &Image, n: Name) -> Entry
     ensures { result ≡ entry_of (decode image.now) n }
 {
     let place = entry_place(image, n);
@@ -103,8 +98,8 @@ pub fn entry(image: &[u8], n: Name) -> Entry
 }
 
 // The lowest free place among the eight of a program, counted over all pads, or 8.
-pub fn free_place(image: &[u8], program: usize) -> usize
-    requires { (length image.now ≡ image_size) × (program < 32) }
+pub fn free_place(image: &Image, program: usize) -> usize
+    requires { program < 32 }
     ensures { result ≡ first_index is_free (tickets_of (decode image.now) (program / 8) (program % 8)) }
 {
     let from = PROGRAM * program;
@@ -115,8 +110,7 @@ pub fn free_place(image: &[u8], program: usize) -> usize
 }
 
 // The lowest free place for an entry, or 256.
-pub fn spare_place(image: &[u8]) -> usize
-    requires { length image.now ≡ image_size }
+pub fn spare_place(image: &Image) -> usize
     ensures { result ≡ first_index is_spare (entries_in image.now) }
 {
     first_place(256, |i| !image_read::entry_at(image, i).live)

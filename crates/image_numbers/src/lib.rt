@@ -3,17 +3,17 @@
 
 #![tactic(auto)]
 
-ghost use Rattle.std.specs.Prelude.{◌≡◌, ◌-◌, ◌≤◌, ◌<◌, eqb, length, get_or, MatchOption};
+ghost use Rattle.std.specs.Prelude.{◌≡◌, ◌-◌, ◌≤◌, ◌<◌, eqb, get_or, MatchOption};
 ghost use Rattle.std.specs.Iterator.{at_most};
 ghost use Rattle.tables.specs.Kinds.{is_taken};
 ghost use Rattle.tables.specs.Names.{free};
 ghost use Rattle.tables.specs.Chains.{is_recall_of};
-ghost use Rattle.image.specs.Layout.{image_size};
 ghost use Rattle.image.specs.Image.{kind_number};
 ghost use Rattle.image_read.specs.Places.{tickets_in};
 ghost use Rattle.image_numbers.specs.Numbers.{number_if, numbers_in, NoneAbove, NextAbove};
 ghost use Rattle.image_numbers.specs.Steps.{NextPlace};
 
+use image::Image;
 use image_places::PROGRAM;
 use std::array;
 use tables::Ticket;
@@ -39,8 +39,8 @@ fn recall_number(k: Ticket, own: u16) -> u16
 }
 
 // Of the kinds that have a number from 1 to 4. The ticket is read only where its kind is the one.
-fn kind_number(image: &[u8], place: usize, kind: u16) -> u16
-    requires { (length image.now ≡ image_size) × ((place < 256) × ((1 ≤ kind) × (kind ≤ 4))) }
+fn kind_number(image: &Image, place: usize, kind: u16) -> u16
+    requires { (place < 256) × ((1 ≤ kind) × (kind ≤ 4)) }
     ensures { result ≡ number_if (λ k. eqb (kind_number k.kind) kind) (get_or (tickets_in image.now) place free) }
 {
     if image_read::kind_at(image, place) == kind {
@@ -53,24 +53,24 @@ fn kind_number(image: &[u8], place: usize, kind: u16) -> u16
 // ---- in the eight places of a program, counted over all pads
 
 // Its taken grants.
-pub fn taken_numbers(image: &[u8], program: usize) -> [u16; 8]
-    requires { (length image.now ≡ image_size) × (program < 32) }
+pub fn taken_numbers(image: &Image, program: usize) -> [u16; 8]
+    requires { program < 32 }
     ensures { result ≡ numbers_in (λ k. is_taken k.kind) (tickets_in image.now) program }
 {
     array::from_fn(|i| taken_number(image_read::ticket_at(image, PROGRAM * program + i)))
 }
 
 // Its recalls that stand under the grant of the number `own`.
-pub fn recall_numbers(image: &[u8], program: usize, own: u16) -> [u16; 8]
-    requires { (length image.now ≡ image_size) × (program < 32) }
+pub fn recall_numbers(image: &Image, program: usize, own: u16) -> [u16; 8]
+    requires { program < 32 }
     ensures { result ≡ numbers_in (is_recall_of own) (tickets_in image.now) program }
 {
     array::from_fn(|i| recall_number(image_read::ticket_at(image, PROGRAM * program + i), own))
 }
 
 // Its tickets of a kind.
-pub fn kind_numbers(image: &[u8], program: usize, kind: u16) -> [u16; 8]
-    requires { (length image.now ≡ image_size) × ((program < 32) × ((1 ≤ kind) × (kind ≤ 4))) }
+pub fn kind_numbers(image: &Image, program: usize, kind: u16) -> [u16; 8]
+    requires { (program < 32) × ((1 ≤ kind) × (kind ≤ 4)) }
     ensures { result ≡ numbers_in (λ k. eqb (kind_number k.kind) kind) (tickets_in image.now) program }
 {
     array::from_fn(|i| kind_number(image, PROGRAM * program + i, kind))
@@ -78,17 +78,20 @@ pub fn kind_numbers(image: &[u8], program: usize, kind: u16) -> [u16; 8]
 
 // ---- the walk
 
-// The place of the least number above `after`. The search keeps a place also where there is none, the length: with an Option in the loop
-// each of the eight turns leaves a branch behind.
-#[tactic(auto, using(crate::proofs::Least::best_none, crate::proofs::Least::best_past, crate::proofs::Least::best_kept, crate::proofs::Least::best_new, crate::proofs::Least::best_some, crate::proofs::Least::best_end))]
+// The place of the least number above `after`. A number above it, with `rest` added, wraps round to so much over the one after it; another
+// does not, and is no less than `rest`: so one comparison does. The search keeps a place also where there is none, the length: with an Option
+// in the loop each of the eight turns leaves a branch behind.
+#[tactic(auto, using(crate::proofs::Least::best_none, crate::proofs::Least::best_kept, crate::proofs::Least::best_new, crate::proofs::Least::best_some, crate::proofs::Least::best_end))]
 fn next_above(numbers: &[u16], after: u16) -> Option<usize>
     ensures { MatchOption result (NoneAbove numbers.now after) (NextAbove numbers.now after) }
 {
+    let rest = 65535 - after;
     let mut next = numbers.len();
-    let mut least: u16 = 65535;
+    let mut least = rest;
     for (i, n) in numbers.iter().enumerate() {
-        if after < *n && *n <= least {
-            least = *n;
+        let over = n.wrapping_add(rest);
+        if over < least {
+            least = over;
             next = i;
         }
     }

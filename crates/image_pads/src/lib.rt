@@ -2,17 +2,17 @@
 
 #![tactic(auto)]
 
-ghost use Rattle.std.specs.Prelude.{◌<◌, ◌≡◌, length};
-ghost use Rattle.image.specs.Layout.{image_size};
+ghost use Rattle.std.specs.Prelude.{◌<◌, ◌≡◌};
 ghost use Rattle.image.specs.Image.{decode};
 ghost use Rattle.image_pads.specs.Places.{numbers_of, place_in, up_of, ups_of};
 
+use image::Image;
 use image_places::{PAD, PROGRAM};
 use tables::{Kind, Ticket};
 
 // The number in each place of the pad, 0 where it is free.
-pub fn write_numbers(image: &[u8], pad: usize, to: &mut [u16])
-    requires { (length image.now ≡ image_size) × ((pad < 4) × (length to.old ≡ 64)) }
+pub fn write_numbers(image: &Image, pad: usize, to: &mut [u16; 64])
+    requires { pad < 4 }
     ensures { to.new ≡ numbers_of (decode image.now) pad }
 {
     for (i, to) in to.iter_mut().enumerate() {
@@ -22,8 +22,7 @@ pub fn write_numbers(image: &[u8], pad: usize, to: &mut [u16])
 
 // The place of a program's number; 64 where there is none.
 #[tactic(auto, unfolding(crate::specs::Places::place_in), using(crate::proofs::Places::row_index))]
-pub fn place_in(numbers: &[u16], program: usize, number: u16) -> usize
-    requires { length numbers.now ≡ 64 }
+pub fn place_in(numbers: &[u16; 64], program: usize, number: u16) -> usize
     ensures { result ≡ place_in numbers.now program number }
 {
     if number == 0 || 8 <= program {
@@ -36,8 +35,7 @@ pub fn place_in(numbers: &[u16], program: usize, number: u16) -> usize
 
 // The place of the parent of a program's ticket: a child names its parent's program, a recall stands in its own.
 #[tactic(auto, unfolding(crate::specs::Places::up_of))]
-fn up_of(k: Ticket, program: usize, numbers: &[u16]) -> usize
-    requires { length numbers.now ≡ 64 }
+fn up_of(k: Ticket, program: usize, numbers: &[u16; 64]) -> usize
     ensures { result ≡ up_of numbers.now program k }
 {
     match k.kind {
@@ -49,8 +47,8 @@ fn up_of(k: Ticket, program: usize, numbers: &[u16]) -> usize
 
 // The place of the parent of each ticket of the pad, 64 where it has none.
 #[tactic(auto, using(crate::proofs::Places::up_fits))]
-pub fn write_ups(image: &[u8], pad: usize, numbers: &[u16], to: &mut [u16])
-    requires { (length image.now ≡ image_size) × ((pad < 4) × ((length numbers.now ≡ 64) × (length to.old ≡ 64))) }
+pub fn write_ups(image: &Image, pad: usize, numbers: &[u16; 64], to: &mut [u16; 64])
+    requires { pad < 4 }
     ensures { to.new ≡ ups_of (decode image.now) pad numbers.now }
 {
     for (i, to) in to.iter_mut().enumerate() {

@@ -56,8 +56,7 @@ pub fn index_of(numbers: &[u16], number: u16) -> usize
 
 // The place of the live ticket of a name, or 256.
 #[tactic(auto, unfolding(crate::specs::Places::place_in, tables::specs::Names::is_program))]
-pub fn place_of(numbers: &[u16], n: Name) -> usize
-    requires { length numbers.now ≡ 256 }
+pub fn place_of(numbers: &[u16; 256], n: Name) -> usize
     ensures { result ≡ place_in numbers.now n }
 {
     if !n.is_of_program() || n.number == 0 {

@@ -1,8 +1,10 @@
 -- What stands at each place of an image.
 use Prim.Native.Nat.{ℕ, ◌<◌}
-use mathlib.Core.Path.{◌≡◌, refl, ap, ◌∙◌}
+use Prim.Native.Nat.{◌-◌}
+use mathlib.Core.Path.{◌≡◌, refl, ap, subst, ◌∙◌}
 use mathlib.Core.List.{List}
-use lib.ListN.{length, get_or, drop}
+use lib.ListN.{length, get_or, take, drop}
+use Rattle.lists.proofs.Front.{rest_part}
 use Rattle.lists.proofs.PartLaws.{length_tabulate, get_or_tabulate}
 use Rattle.tables.specs.declared.Ticket.{Ticket}
 use Rattle.tables.specs.Names.{free, no_entry}
@@ -45,3 +47,7 @@ module _ (bytes : List ℕ) where
   pub entries_decoded : entries_in bytes ≡ (decode bytes).entries
   unfolding entries_in decode
   entries_decoded = refl
+
+-- the part of an array from `at` on: its length is the number of its type
+pub rest_of_array : {A : Type 0} (l : List A) (at n : ℕ) → length l ≡ n → take (n - at) (drop at l) ≡ drop at l
+rest_of_array l at n long = subst (λ (m : ℕ). take (m - at) (drop at l) ≡ drop at l) long (rest_part l at)

@@ -3,7 +3,7 @@
 #![tactic(auto)]
 
 ghost use Rattle.std.specs.Prelude.{◌+◌, ◌*◌, ◌<◌, ◌≤◌, ◌≡◌, length, get_or, drop};
-ghost use Rattle.image.specs.Layout.{ticket_size, program_size, entry_size, image_size};
+ghost use Rattle.image.specs.Layout.{ticket_size, program_size, entry_size};
 ghost use Rattle.image.specs.Numbers.{number_at};
 ghost use Rattle.tables.specs.Names.{free, no_entry};
 ghost use Rattle.image.specs.Image.{kind_of, read_name, read_ticket, read_program, read_entry, ticket_start, entry_start};
@@ -11,7 +11,7 @@ ghost use Rattle.image_read.specs.Places.{tickets_in, lasts_in, entries_in};
 
 use image::{
     ENTRIES, ENTRY, ENTRY_COUNT, ENTRY_FIRST, ENTRY_LIVE, ENTRY_NAME, ENTRY_PARENT, ENTRY_RIGHTS,
-    PROGRAM, PROGRAM_LAST, TICKET, TICKET_COUNT, TICKET_DOCK, TICKET_FIRST, TICKET_KIND,
+    Image, PROGRAM, PROGRAM_LAST, TICKET, TICKET_COUNT, TICKET_DOCK, TICKET_FIRST, TICKET_KIND,
     TICKET_NUMBER, TICKET_OTHER, TICKET_OWN, TICKET_RIGHTS,
 };
 use rights::Rights;
@@ -100,17 +100,17 @@ fn entry_in(bytes: &[u8]) -> Entry
 // ---- by place
 
 // The ticket at a place: 8 * the program, counted over all pads, + the place in it.
-#[tactic(auto, using(crate::proofs::Places::ticket_here, lists::proofs::Front::rest_part))]
-pub fn ticket_at(bytes: &[u8], place: usize) -> Ticket
-    requires { (length bytes.now ≡ image_size) × (place < 256) }
+#[tactic(auto, using(crate::proofs::Places::ticket_here, crate::proofs::Places::rest_of_array))]
+pub fn ticket_at(bytes: &Image, place: usize) -> Ticket
+    requires { place < 256 }
     ensures { result ≡ get_or (tickets_in bytes.now) place free }
 {
     ticket_in(&bytes[PROGRAM * (place / 8) + TICKET * (place % 8)..])
 }
 
 // The number that says the kind of the ticket at a place, before it is read as one.
-pub fn kind_at(bytes: &[u8], place: usize) -> u16
-    requires { (length bytes.now ≡ image_size) × (place < 256) }
+pub fn kind_at(bytes: &Image, place: usize) -> u16
+    requires { place < 256 }
     ensures { result ≡ number_at (ticket_start place) bytes.now }
 {
     number_at(bytes, PROGRAM * (place / 8) + TICKET * (place % 8))
@@ -118,32 +118,32 @@ pub fn kind_at(bytes: &[u8], place: usize) -> u16
 
 // The last number of a program, counted over all pads.
 #[tactic(auto, using(crate::proofs::Places::last_here))]
-pub fn last_at(bytes: &[u8], program: usize) -> u16
-    requires { (length bytes.now ≡ image_size) × (program < 32) }
+pub fn last_at(bytes: &Image, program: usize) -> u16
+    requires { program < 32 }
     ensures { result ≡ get_or (lasts_in bytes.now) program 0 }
 {
     number_at(bytes, PROGRAM * program + PROGRAM_LAST)
 }
 
 // A program, counted over all pads.
-pub fn program_at(bytes: &[u8], program: usize) -> Program
-    requires { (length bytes.now ≡ image_size) × (program < 32) }
+pub fn program_at(bytes: &Image, program: usize) -> Program
+    requires { program < 32 }
     ensures { result ≡ read_program (drop (program_size * program) bytes.now) }
 {
     program_in(&bytes[PROGRAM * program..])
 }
 
-#[tactic(auto, using(crate::proofs::Places::entry_here, lists::proofs::Front::rest_part))]
-pub fn entry_at(bytes: &[u8], place: usize) -> Entry
-    requires { (length bytes.now ≡ image_size) × (place < 256) }
+#[tactic(auto, using(crate::proofs::Places::entry_here, crate::proofs::Places::rest_of_array))]
+pub fn entry_at(bytes: &Image, place: usize) -> Entry
+    requires { place < 256 }
     ensures { result ≡ get_or (entries_in bytes.now) place no_entry }
 {
     entry_in(&bytes[ENTRIES + ENTRY * place..])
 }
 
 // The number that says whether the entry at a place is live.
-pub fn live_at(bytes: &[u8], place: usize) -> u16
-    requires { (length bytes.now ≡ image_size) × (place < 256) }
+pub fn live_at(bytes: &Image, place: usize) -> u16
+    requires { place < 256 }
     ensures { result ≡ number_at (entry_start place) bytes.now }
 {
     number_at(bytes, ENTRIES + ENTRY * place)

@@ -7,12 +7,12 @@ ghost use Rattle.image.specs.Image.{is_image};
 ghost use Rattle.image_read.specs.Places.{tickets_in, lasts_in, entries_in};
 ghost use Rattle.image_write.specs.Shows.{Shows};
 
-use image::{ENTRIES, ENTRY, PROGRAM, PROGRAM_LAST, TICKET};
+use image::{ENTRIES, ENTRY, Image, PROGRAM, PROGRAM_LAST, TICKET};
 use tables::{Entry, Ticket};
 
 // Place: 8 * the program, counted over all pads, + the place in it.
 #[tactic(auto, using(image::proofs::RoundTrip::image_whole))]
-pub fn put_ticket(image: &mut [u8], place: usize, k: Ticket)
+pub fn put_ticket(image: &mut Image, place: usize, k: Ticket)
     requires { (is_image image.old ≡ true) × (place < 256) }
     ensures { Shows image.new (set (tickets_in image.old) place k) (lasts_in image.old) (entries_in image.old) }
 {
@@ -22,7 +22,7 @@ pub fn put_ticket(image: &mut [u8], place: usize, k: Ticket)
 
 // The last number of a program, counted over all pads.
 #[tactic(auto, using(image::proofs::RoundTrip::image_whole))]
-pub fn put_last(image: &mut [u8], program: usize, last: u16)
+pub fn put_last(image: &mut Image, program: usize, last: u16)
     requires { (is_image image.old ≡ true) × (program < 32) }
     ensures { Shows image.new (tickets_in image.old) (set (lasts_in image.old) program last) (entries_in image.old) }
 {
@@ -31,7 +31,7 @@ pub fn put_last(image: &mut [u8], program: usize, last: u16)
 }
 
 #[tactic(auto, using(image::proofs::RoundTrip::image_whole))]
-pub fn put_entry(image: &mut [u8], place: usize, e: Entry)
+pub fn put_entry(image: &mut Image, place: usize, e: Entry)
     requires { (is_image image.old ≡ true) × (place < 256) }
     ensures { Shows image.new (tickets_in image.old) (lasts_in image.old) (set (entries_in image.old) place e) }
 {

@@ -2,24 +2,24 @@
 
 #![tactic(auto)]
 
-ghost use Rattle.std.specs.Prelude.{◌≡◌, true, length};
+ghost use Rattle.std.specs.Prelude.{◌≡◌, true};
 ghost use Rattle.machine.specs.State.{asked, state_of};
 ghost use Rattle.machine.specs.Step.{serve};
-ghost use Rattle.image.specs.Layout.{image_size};
 ghost use Rattle.image.specs.Image.{decode, is_image};
 ghost use Rattle.op_outcome.specs.Outcomes.{Serves};
 ghost use Rattle.op_outcome.specs.Ready.{Ready, Asks};
 ghost use Rattle.op_access.specs.Decides.{Decides};
 
+use image::Image;
 use machine::{Answer, Refusal, Request};
+use op_sheets::{Sheet, Store};
 use rights::Rights;
 use tables::Ticket;
 
 // The sheet of the store that the ticket k asked for grants; or 4, 5, 6, 7 or 12. Nothing changes. The dock is asked only where the pad
 // refuses nothing: that is a look at every entry.
 #[tactic(auto, using(op_refusals::proofs::Parts::access_parts))]
-pub fn allowed(image: &[u8], k: Ticket, r: Request, right: Rights) -> Result<usize, Refusal>
-    requires { length image.now ≡ image_size }
+pub fn allowed(image: &Image, k: Ticket, r: Request, right: Rights) -> Result<usize, Refusal>
     ensures { asked (decode image.now) r ≡ k → Decides right.bits (decode image.now) r result }
 {
     op_refusals::access_ticket(k, r.first, right)?;
@@ -31,8 +31,8 @@ pub fn allowed(image: &[u8], k: Ticket, r: Request, right: Rights) -> Result<usi
 
 // Read copies the sheet into the buffer.
 #[tactic(auto, using(image::proofs::RoundTrip::image_whole))]
-pub fn read(image: &mut [u8], store: &[u8], sheet: &mut [u8], r: Request) -> Answer
-    requires { (is_image image.old ≡ true) × (((length store.now ≡ 16384) × (length sheet.old ≡ 64)) × (Ready (decode image.old) × Asks 5 r)) }
+pub fn read(image: &mut Image, store: &Store, sheet: &mut Sheet, r: Request) -> Answer
+    requires { (is_image image.old ≡ true) × (Ready (decode image.old) × Asks 5 r) }
     ensures { Serves (serve (state_of (decode image.old) store.now sheet.old) r) result image.new store.now sheet.new }
 {
     let k = op_outcome::asked(image, r);
@@ -47,8 +47,8 @@ pub fn read(image: &mut [u8], store: &[u8], sheet: &mut [u8], r: Request) -> Ans
 
 // Write copies the buffer into the sheet.
 #[tactic(auto, using(image::proofs::RoundTrip::image_whole))]
-pub fn write(image: &mut [u8], store: &mut [u8], sheet: &[u8], r: Request) -> Answer
-    requires { (is_image image.old ≡ true) × (((length store.old ≡ 16384) × (length sheet.now ≡ 64)) × (Ready (decode image.old) × Asks 6 r)) }
+pub fn write(image: &mut Image, store: &mut Store, sheet: &Sheet, r: Request) -> Answer
+    requires { (is_image image.old ≡ true) × (Ready (decode image.old) × Asks 6 r) }
     ensures { Serves (serve (state_of (decode image.old) store.old sheet.now) r) result image.new store.new sheet.now }
 {
     let k = op_outcome::asked(image, r);

@@ -9,6 +9,7 @@ ghost use Rattle.image.specs.Image.{decode, is_image};
 ghost use Rattle.image_write.specs.Shows.{Holds};
 ghost use Rattle.op_drop_entries.specs.Links.{directly_below, LinkedEntries};
 
+use image::Image;
 use tables::{Entry, Name};
 
 // Is it a live entry whose parent is the entry n? The number is asked first: it tells most entries apart.
@@ -22,7 +23,7 @@ fn is_below(e: Entry, n: Name) -> bool
 // The entry x goes, and all below it. The queue holds the names of those that are gone; at each in turn those directly below it go too, so
 // that removal costs what it removes.
 #[tactic(auto, using(image::proofs::RoundTrip::image_whole))]
-pub fn drop_below(image: &mut [u8], x: Name)
+pub fn drop_below(image: &mut Image, x: Name)
     requires { (is_image image.old ≡ true) × LinkedEntries (decode image.old).entries }
     ensures { Holds image.new (drop_entries (at_or_below (decode image.old) x) (decode image.old)) }
 {

@@ -3,19 +3,19 @@
 
 #![tactic(auto)]
 
-ghost use Rattle.std.specs.Prelude.{◌<◌, ◌≡◌, true, length};
+ghost use Rattle.std.specs.Prelude.{◌<◌, ◌≡◌, true};
 ghost use Rattle.tables.specs.Kinds.{is_head};
 ghost use Rattle.tables.specs.Names.{name_of, eq_name};
 ghost use Rattle.tables.specs.Lookup.{lookup};
 ghost use Rattle.tables.specs.Chains.{at_or_under};
 ghost use Rattle.tables.specs.Change.{drop_tickets};
-ghost use Rattle.image.specs.Layout.{image_size};
 ghost use Rattle.image.specs.Image.{decode, is_image};
 ghost use Rattle.image_write.specs.Shows.{Holds};
 ghost use Rattle.op_drop_tickets.specs.Marks.{goes, under_on, marks_of};
 ghost use Rattle.op_drop_tickets.specs.Docked.{docked_by, docked_with, docked_on, Heads};
 ghost use Rattle.op_drop_tickets.specs.Linked.{Linked};
 
+use image::Image;
 use image_places::{PAD, PROGRAM};
 use tables::{Name, Ticket};
 
@@ -32,8 +32,8 @@ fn mark_chains(up: &[u16; PAD], also: usize, x: usize, marks: &mut [bool; PAD])
 }
 
 // `also`, x and all under x: the chains of x's pad are walked from place to place.
-pub fn mark_under(image: &[u8], also: Name, x: Name, marks: &mut [bool; PAD])
-    requires { (length image.now ≡ image_size) × (x.pad < 4) }
+pub fn mark_under(image: &Image, also: Name, x: Name, marks: &mut [bool; PAD])
+    requires { x.pad < 4 }
     ensures { marks.new ≡ marks_of (under_on (decode image.now) also x) }
 {
     let pad = x.pad as usize;
@@ -55,8 +55,7 @@ fn docked_by(d: Name, k: Ticket) -> bool
 }
 
 // Is the ticket of that program such a grant, or a recall that stands under one?
-fn docked_with(image: &[u8], d: Name, program: u16, k: Ticket) -> bool
-    requires { length image.now ≡ image_size }
+fn docked_with(image: &Image, d: Name, program: u16, k: Ticket) -> bool
     ensures { result ≡ docked_with (decode image.now) d (name_of d.pad program 0) k }
 {
     let own = Name {
@@ -69,8 +68,8 @@ fn docked_with(image: &[u8], d: Name, program: u16, k: Ticket) -> bool
 
 // The head named d and all under it: what has its dock name.
 #[tactic(auto, using(crate::proofs::Steps::all_marked))]
-fn mark_docked(image: &[u8], d: Name, marks: &mut [bool; PAD])
-    requires { (length image.now ≡ image_size) × (d.pad < 4) }
+fn mark_docked(image: &Image, d: Name, marks: &mut [bool; PAD])
+    requires { d.pad < 4 }
     ensures { marks.new ≡ marks_of (docked_on (decode image.now) d) }
 {
     let from = PAD * d.pad as usize;
@@ -84,7 +83,7 @@ fn mark_docked(image: &[u8], d: Name, marks: &mut [bool; PAD])
 
 // The tables without the head of a chain and all under it: what is under it has its dock name, so nothing is walked.
 #[tactic(auto, using(image::proofs::RoundTrip::image_whole, image_find::proofs::Laws::decoded_sized, crate::proofs::Removal::head_low))]
-pub fn drop_head(image: &mut [u8], h: Name)
+pub fn drop_head(image: &mut Image, h: Name)
     requires { (is_image image.old ≡ true) × (Linked (decode image.old) × (Heads (decode image.old) × (is_head (lookup (decode image.old) h).kind ≡ true))) }
     ensures { Holds image.new (drop_tickets (at_or_under (decode image.old) h) (decode image.old)) }
 {
@@ -95,7 +94,7 @@ pub fn drop_head(image: &mut [u8], h: Name)
 
 // The tables without the ticket of that name; what is under it stays.
 #[tactic(auto, using(image::proofs::RoundTrip::image_whole))]
-pub fn drop_one(image: &mut [u8], n: Name)
+pub fn drop_one(image: &mut Image, n: Name)
     requires { (is_image image.old ≡ true) × ((n.pad < 4) × (n.program < 8)) }
     ensures { Holds image.new (drop_tickets (λ m. eq_name m n) (decode image.old)) }
 {

@@ -10,6 +10,7 @@ ghost use Rattle.op_drop_entries.specs.Links.{LinkedEntries};
 ghost use Rattle.op_drop_tickets.specs.Linked.{Linked};
 ghost use Rattle.op_follow.specs.Lent.{is_lending, lent_by, without_loan};
 
+use image::Image;
 use image_places::PAD;
 use tables::{Name, Ticket};
 
@@ -23,7 +24,7 @@ fn is_lending(k: Ticket, pad: usize, mark: bool) -> bool
 
 // The entries that such recalls name go, one after the other, each with all below it. The marked tickets stay readable.
 #[tactic(auto, using(image::proofs::RoundTrip::image_whole, crate::proofs::Turns::begins, crate::proofs::Turns::linked_now))]
-fn drop_lent(image: &mut [u8], pad: usize, marks: &[bool; PAD])
+fn drop_lent(image: &mut Image, pad: usize, marks: &[bool; PAD])
     requires { (is_image image.old ≡ true) × ((pad < 4) × LinkedEntries (decode image.old).entries) }
     ensures { Holds image.new (drop_entries (lent_by (decode image.old) pad marks.now 64) (decode image.old)) }
 {
@@ -37,7 +38,7 @@ fn drop_lent(image: &mut [u8], pad: usize, marks: &[bool; PAD])
 
 // The tables without `also`, x and all under x, and in the dock without what was lent away from there.
 #[tactic(auto, using(image::proofs::RoundTrip::image_whole))]
-pub fn drop_followed(image: &mut [u8], also: Name, x: Name)
+pub fn drop_followed(image: &mut Image, also: Name, x: Name)
     requires { (is_image image.old ≡ true) × (Linked (decode image.old) × (((x.pad < 4) × (also.pad ≡ x.pad)) × LinkedEntries (decode image.old).entries)) }
     ensures { Holds image.new (without_loan (decode image.old) also x) }
 {

@@ -2,22 +2,22 @@
 
 #![tactic(auto)]
 
-ghost use Rattle.std.specs.Prelude.{◌≡◌, true, List, ℕ, length};
+ghost use Rattle.std.specs.Prelude.{◌≡◌, true, List, ℕ};
 ghost use Rattle.machine.specs.State.{state_of};
 ghost use Rattle.machine.specs.GiveBack.{give_back_refusal};
 ghost use Rattle.machine.specs.Step.{serve};
-ghost use Rattle.image.specs.Layout.{image_size};
 ghost use Rattle.image.specs.Image.{decode, is_image};
 ghost use Rattle.op_outcome.specs.Outcomes.{Serves};
 ghost use Rattle.op_outcome.specs.Ready.{Ready, Asks};
 ghost use Rattle.op_outcome.specs.Decides.{Decides};
 
+use image::Image;
 use machine::{Answer, Refusal, Request};
+use op_sheets::Store;
 use tables::Ticket;
 
 // The taken grant that is asked for; or 4 or 5. Nothing changes.
-pub fn allowed(image: &[u8], r: Request) -> Result<Ticket, Refusal>
-    requires { length image.now ≡ image_size }
+pub fn allowed(image: &Image, r: Request) -> Result<Ticket, Refusal>
     ensures { Decides give_back_refusal (decode image.now) r result }
 {
     let k = op_outcome::asked(image, r);
@@ -27,8 +27,8 @@ pub fn allowed(image: &[u8], r: Request) -> Result<Ticket, Refusal>
 
 // The taken grant is given back: its entry and all below it go, it and all under it go, its sheets become 0.
 #[tactic(auto, using(image::proofs::RoundTrip::image_whole))]
-pub fn give_back(image: &mut [u8], store: &mut [u8], r: Request) -> Answer
-    requires { (is_image image.old ≡ true) × ((length store.old ≡ 16384) × (Ready (decode image.old) × Asks 4 r)) }
+pub fn give_back(image: &mut Image, store: &mut Store, r: Request) -> Answer
+    requires { (is_image image.old ≡ true) × (Ready (decode image.old) × Asks 4 r) }
     ensures { (sheet : List ℕ) → Serves (serve (state_of (decode image.old) store.old sheet) r) result image.new store.new sheet }
 {
     let k = match allowed(image, r) {

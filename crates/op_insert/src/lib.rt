@@ -7,11 +7,12 @@ ghost use Rattle.tables.specs.Change.{give, put_entry};
 ghost use Rattle.image.specs.Image.{decode, is_image};
 ghost use Rattle.image_write.specs.Shows.{Holds};
 
+use image::Image;
 use tables::{Entry, Ticket};
 
 // The ticket goes to a program, counted over all pads, if that has a free place; its number is the last given.
 #[tactic(auto, using(image::proofs::RoundTrip::image_whole, crate::proofs::Inserted::given_here))]
-pub fn give(image: &mut [u8], program: usize, k: Ticket)
+pub fn give(image: &mut Image, program: usize, k: Ticket)
     requires { (is_image image.old ≡ true) × (program < 32) }
     ensures { Holds image.new (give (decode image.old) (program / 8) (program % 8) k) }
 {
@@ -24,7 +25,7 @@ pub fn give(image: &mut [u8], program: usize, k: Ticket)
 
 // The entry stands in the lowest free place, if there is one.
 #[tactic(auto, using(image::proofs::RoundTrip::image_whole, crate::proofs::Inserted::made_here, crate::proofs::Inserted::made_nowhere))]
-pub fn make(image: &mut [u8], e: Entry)
+pub fn make(image: &mut Image, e: Entry)
     requires { is_image image.old ≡ true }
     ensures { Holds image.new (put_entry (decode image.old) e) }
 {

@@ -2,16 +2,16 @@
 
 #![tactic(auto)]
 
-ghost use Rattle.std.specs.Prelude.{◌+◌, ◌*◌, ◌≡◌, true, length};
+ghost use Rattle.std.specs.Prelude.{◌+◌, ◌*◌, ◌≡◌, true};
 ghost use Rattle.tables.specs.Change.{give};
 ghost use Rattle.tables.proofs.NameLaws.{Possible};
 ghost use Rattle.machine.specs.State.{asked_name, asked};
-ghost use Rattle.image.specs.Layout.{image_size};
 ghost use Rattle.image.specs.Image.{decode, is_image};
 ghost use Rattle.image_write.specs.Shows.{Holds};
 ghost use Rattle.op_refusals.specs.Found.{SeatOf};
 ghost use Rattle.op_outcome.specs.Refusing.{MayRefuse, Refuses};
 
+use image::Image;
 use machine::{Answer, Refusal, Request};
 use op_refusals::Seat;
 use tables::{Name, Ticket};
@@ -28,8 +28,7 @@ pub fn asked_name(r: Request) -> Name
 }
 
 // The ticket that the request asks for.
-pub fn asked(image: &[u8], r: Request) -> Ticket
-    requires { length image.now ≡ image_size }
+pub fn asked(image: &Image, r: Request) -> Ticket
     ensures { asked (decode image.now) r ≡ result }
 {
     image_find::ticket(image, asked_name(r))
@@ -42,8 +41,8 @@ fn program_at(pad: u16, program: u16) -> usize
     8 * usize::from(pad) + usize::from(program)
 }
 
-pub fn seat(image: &[u8], pad: u16, program: u16) -> Seat
-    requires { (length image.now ≡ image_size) × Possible pad program }
+pub fn seat(image: &Image, pad: u16, program: u16) -> Seat
+    requires { Possible pad program }
     ensures { SeatOf (decode image.now) pad program result }
 {
     let at = program_at(pad, program);
@@ -53,7 +52,7 @@ pub fn seat(image: &[u8], pad: u16, program: u16) -> Seat
     }
 }
 
-pub fn give(image: &mut [u8], pad: u16, program: u16, k: Ticket)
+pub fn give(image: &mut Image, pad: u16, program: u16, k: Ticket)
     requires { (is_image image.old ≡ true) × Possible pad program }
     ensures { Holds image.new (give (decode image.old) pad program k) }
 {
@@ -62,7 +61,7 @@ pub fn give(image: &mut [u8], pad: u16, program: u16, k: Ticket)
 
 // A refusal of a request for the ticket k: 12 drops the head of its chain and all under it, any other leaves all as it is.
 #[tactic(auto, using(crate::proofs::Twelve::twelve), unfolding(crate::specs::Refusing::after_refusal))]
-pub fn refuse(image: &mut [u8], refusal: Refusal, k: Ticket) -> Answer
+pub fn refuse(image: &mut Image, refusal: Refusal, k: Ticket) -> Answer
     requires { (is_image image.old ≡ true) × MayRefuse (decode image.old) refusal k }
     ensures { Refuses (decode image.old) refusal k result image.new }
 {

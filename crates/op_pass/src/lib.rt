@@ -2,12 +2,11 @@
 
 #![tactic(auto)]
 
-ghost use Rattle.std.specs.Prelude.{◌≡◌, true, not, ◌&&◌, List, ℕ, ◌+◌, ◌<◌, eqb, length};
+ghost use Rattle.std.specs.Prelude.{◌≡◌, true, not, ◌&&◌, List, ℕ, ◌+◌, ◌<◌, eqb};
 ghost use Rattle.tables.specs.Lookup.{entry_of};
 ghost use Rattle.tables.proofs.NameLaws.{Possible};
 ghost use Rattle.machine.specs.State.{asked, state_of};
 ghost use Rattle.machine.specs.Step.{serve};
-ghost use Rattle.image.specs.Layout.{image_size};
 ghost use Rattle.image.specs.Image.{decode, is_image};
 ghost use Rattle.image_write.specs.Shows.{Holds};
 ghost use Rattle.op_outcome.specs.Outcomes.{Serves};
@@ -15,6 +14,7 @@ ghost use Rattle.op_outcome.specs.Ready.{Ready, Asks};
 ghost use Rattle.op_pass.specs.Decides.{Decides};
 ghost use Rattle.op_pass.specs.Grant.{granted};
 
+use image::Image;
 use machine::{Answer, Refusal, Request};
 use tables::{Kind, Name, Ticket};
 
@@ -26,8 +26,7 @@ pub struct Numbers {
 }
 
 // To another pad, and the dock has no entry of the ticket's dock name. On the same pad the dock isn't asked.
-fn is_lost(image: &[u8], d: Name, r: Request) -> bool
-    requires { length image.now ≡ image_size }
+fn is_lost(image: &Image, d: Name, r: Request) -> bool
     ensures { result ≡ (not (eqb r.pad r.topad) && not (entry_of (decode image.now) d).live) }
 {
     r.pad != r.topad && !image_find::entry(image, d).live
@@ -36,8 +35,8 @@ fn is_lost(image: &[u8], d: Name, r: Request) -> bool
 // The new numbers of a pass of the ticket k asked for; or 4, 5, 8, 6, 7, 9, 10 or 12. Nothing changes. Seats and dock are asked only where
 // the ticket refuses nothing.
 #[tactic(auto, using(op_refusals::proofs::Parts::pass_parts))]
-pub fn allowed(image: &[u8], k: Ticket, r: Request) -> Result<Numbers, Refusal>
-    requires { (length image.now ≡ image_size) × Asks 2 r }
+pub fn allowed(image: &Image, k: Ticket, r: Request) -> Result<Numbers, Refusal>
+    requires { Asks 2 r }
     ensures { asked (decode image.now) r ≡ k → Decides (decode image.now) r result }
 {
     op_refusals::pass_ticket(k, r)?;
@@ -53,7 +52,7 @@ pub fn allowed(image: &[u8], k: Ticket, r: Request) -> Result<Numbers, Refusal>
 
 // The recipient gets its grant, of the name n. On the same pad it is a child, and the dock isn't told; to another pad it is a received
 // grant with an entry.
-fn grant(image: &mut [u8], k: Ticket, r: Request, n: Name)
+fn grant(image: &mut Image, k: Ticket, r: Request, n: Name)
     requires { (is_image image.old ≡ true) × (Possible r.topad r.toprogram × (k.first + r.first < 65536)) }
     ensures { Holds image.new (granted (decode image.old) k r n) }
 {
@@ -72,7 +71,7 @@ fn grant(image: &mut [u8], k: Ticket, r: Request, n: Name)
 
 // The asker gets a recall under its ticket, the recipient a grant.
 #[tactic(auto, using(image::proofs::RoundTrip::image_whole))]
-pub fn pass(image: &mut [u8], r: Request) -> Answer
+pub fn pass(image: &mut Image, r: Request) -> Answer
     requires { (is_image image.old ≡ true) × (Ready (decode image.old) × Asks 2 r) }
     ensures { (store : List ℕ) (sheet : List ℕ) → Serves (serve (state_of (decode image.old) store sheet) r) result image.new store sheet }
 {

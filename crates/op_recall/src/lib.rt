@@ -2,22 +2,21 @@
 
 #![tactic(auto)]
 
-ghost use Rattle.std.specs.Prelude.{◌≡◌, true, List, ℕ, length};
+ghost use Rattle.std.specs.Prelude.{◌≡◌, true, List, ℕ};
 ghost use Rattle.machine.specs.State.{state_of};
 ghost use Rattle.machine.specs.Recall.{recall_refusal};
 ghost use Rattle.machine.specs.Step.{serve};
-ghost use Rattle.image.specs.Layout.{image_size};
 ghost use Rattle.image.specs.Image.{decode, is_image};
 ghost use Rattle.op_outcome.specs.Outcomes.{Serves};
 ghost use Rattle.op_outcome.specs.Ready.{Ready, Asks};
 ghost use Rattle.op_outcome.specs.Decides.{Decides};
 
+use image::Image;
 use machine::{Answer, Refusal, Request};
 use tables::Ticket;
 
 // The recall that is asked for; or 4 or 5. Nothing changes.
-pub fn allowed(image: &[u8], r: Request) -> Result<Ticket, Refusal>
-    requires { length image.now ≡ image_size }
+pub fn allowed(image: &Image, r: Request) -> Result<Ticket, Refusal>
     ensures { Decides recall_refusal (decode image.now) r result }
 {
     let k = op_outcome::asked(image, r);
@@ -28,7 +27,7 @@ pub fn allowed(image: &[u8], r: Request) -> Result<Ticket, Refusal>
 // What was lent is taken back. On the same pad the target and all under it go, with the recall, and in the dock what was lent away from
 // there. For another pad the recall goes, and the entry and all below it.
 #[tactic(auto, using(image::proofs::RoundTrip::image_whole))]
-pub fn recall(image: &mut [u8], r: Request) -> Answer
+pub fn recall(image: &mut Image, r: Request) -> Answer
     requires { (is_image image.old ≡ true) × (Ready (decode image.old) × Asks 3 r) }
     ensures { (store : List ℕ) (sheet : List ℕ) → Serves (serve (state_of (decode image.old) store sheet) r) result image.new store sheet }
 {

@@ -2,15 +2,15 @@
 
 #![tactic(auto)]
 
-ghost use Rattle.std.specs.Prelude.{◌≡◌, ◌≤◌, length};
+ghost use Rattle.std.specs.Prelude.{◌≡◌, ◌≤◌};
 ghost use Rattle.tables.specs.Sheets.{sheets_free};
 ghost use Rattle.best_fit.specs.BestFit.{best_fit};
-ghost use Rattle.image.specs.Layout.{image_size};
 ghost use Rattle.image_read.specs.Places.{entries_in};
 ghost use Rattle.op_run.specs.Ends.{NotesEnd, NotesEnds};
 ghost use Rattle.op_run.specs.Better.{better_of};
 
 use best_fit::Run;
+use image::Image;
 use tables::Entry;
 
 // Where the entry ends is kept at the sheet where it begins, unless another that begins there ends further. It begins below the bound that is
@@ -28,8 +28,7 @@ fn note_end(ends: &mut [u32; 256], e: Entry, bound: u32) -> u32
 }
 
 // Of all entries; the bound below which they begin.
-fn note_ends(ends: &mut [u32; 256], image: &[u8]) -> u32
-    requires { length image.now ≡ image_size }
+fn note_ends(ends: &mut [u32; 256], image: &Image) -> u32
     ensures { NotesEnds (entries_in image.now) ends.old ends.new result }
 {
     let mut bound = 0;
@@ -56,8 +55,8 @@ fn better(found: Run, start: u32, end: u32, count: u32) -> Run
 
 // The sheet from which on a take of `count` sheets lies, or 256. One pass over the entries, one over the sheets at which they begin: `start` is
 // where the furthest of those that begin below s ends, and where the next one begins, the free run from there on ends.
-pub fn best_fit(image: &[u8], count: usize) -> usize
-    requires { (length image.now ≡ image_size) × (1 ≤ count) × (count ≤ 256) }
+pub fn best_fit(image: &Image, count: usize) -> usize
+    requires { (1 ≤ count) × (count ≤ 256) }
     ensures { result ≡ best_fit (entries_in image.now) count }
 {
     let mut ends = [0u32; 256];
@@ -79,8 +78,7 @@ pub fn best_fit(image: &[u8], count: usize) -> usize
 
 // How many sheets lie outside all entries, counted sheet by sheet: one does where the furthest of the entries that begin there or below does
 // not end behind it.
-pub fn free_sheets(image: &[u8]) -> u16
-    requires { length image.now ≡ image_size }
+pub fn free_sheets(image: &Image) -> u16
     ensures { result ≡ sheets_free (entries_in image.now) }
 {
     let mut ends = [0u32; 256];

@@ -10,19 +10,14 @@ pub const SHEET: usize = 64;
 
 pub const STORE: usize = 16384;
 
-// `to` becomes `from`, an array by value: two slices might overlap, for all that the compiler knows, and so `copy_from_slice` tests whether they
-// do, in a call of its own (a write: 5.8 ns against 3.2).
-fn copy(from: &[u8], to: &mut [u8])
-    requires { (length from.now ≡ 64) × (length to.old ≡ 64) }
-    ensures { to.new ≡ from.now }
-{
-    *to.first_chunk_mut::<SHEET>().unwrap() = *from.first_chunk::<SHEET>().unwrap();
-}
+pub type Sheet = [u8; SHEET];
+
+pub type Store = [u8; STORE];
 
 // `count` sheets from `first` on become 0.
 #[tactic(auto, unfolding(machine::specs::State::clear_sheets), using(crate::proofs::Parts::put_back))]
-pub fn clear_sheets(store: &mut [u8], first: usize, count: usize)
-    requires { (length store.old ≡ 16384) × (first + count ≤ 256) }
+pub fn clear_sheets(store: &mut Store, first: usize, count: usize)
+    requires { first + count ≤ 256 }
     ensures { store.new ≡ clear_sheets first count store.old }
 {
     let start = SHEET * first;
@@ -30,24 +25,31 @@ pub fn clear_sheets(store: &mut [u8], first: usize, count: usize)
     store[start..end].fill(0);
 }
 
-// Read copies the sheet into the buffer.
+// Read copies the sheet into the buffer, an array by value: two slices might overlap, for all that the compiler knows, and so
+// `copy_from_slice` tests whether they do, in a call of its own (a write: 5.8 ns against 3.2).
 #[tactic(auto, using(crate::proofs::Parts::lent_sheet))]
-pub fn read_sheet(store: &[u8], sheet: usize, buffer: &mut [u8])
-    requires { (length store.now ≡ 16384) × ((sheet < 256) × (length buffer.old ≡ 64)) }
+pub fn read_sheet(store: &Store, sheet: usize, buffer: &mut Sheet)
+    requires { sheet < 256 }
     ensures { buffer.new ≡ sheet_at sheet store.now }
 {
-    let start = SHEET * sheet;
-    let end = start + SHEET;
-    copy(&store[start..end], buffer);
+    *buffer = *store[SHEET * sheet..SHEET * (sheet + 1)]
+        .as_array()
+        .unwrap();
+}
+
+// A part of the store becomes `sheet`, an array by value as in a read.
+fn put(part: &mut [u8], sheet: &Sheet)
+    requires { length part.old ≡ 64 }
+    ensures { part.new ≡ sheet.now }
+{
+    *part.as_mut_array().unwrap() = *sheet;
 }
 
 // Write copies the buffer into the sheet.
 #[tactic(auto, using(crate::proofs::Parts::put_back))]
-pub fn write_sheet(store: &mut [u8], sheet: usize, buffer: &[u8])
-    requires { (length store.old ≡ 16384) × ((sheet < 256) × (length buffer.now ≡ 64)) }
+pub fn write_sheet(store: &mut Store, sheet: usize, buffer: &Sheet)
+    requires { sheet < 256 }
     ensures { store.new ≡ put_sheets sheet buffer.now store.old }
 {
-    let start = SHEET * sheet;
-    let end = start + SHEET;
-    copy(buffer, &mut store[start..end]);
+    put(&mut store[SHEET * sheet..SHEET * (sheet + 1)], buffer);
 }

@@ -2,16 +2,17 @@
 
 #![tactic(auto)]
 
-ghost use Rattle.std.specs.Prelude.{◌≡◌, true, List, ℕ, length};
+ghost use Rattle.std.specs.Prelude.{◌≡◌, true, List, ℕ};
 ghost use Rattle.machine.specs.State.{state_of};
 ghost use Rattle.machine.specs.Step.{serve};
-ghost use Rattle.image.specs.Layout.{image_size};
 ghost use Rattle.image.specs.Image.{decode, is_image};
 ghost use Rattle.op_outcome.specs.Outcomes.{Serves};
 ghost use Rattle.op_outcome.specs.Ready.{Asks};
 ghost use Rattle.op_take.specs.Decides.{Decides};
 
+use image::Image;
 use machine::{Answer, Refusal, Request};
+use op_sheets::Store;
 use tables::{Kind, Name};
 
 // What an accepted take needs: the new number, and the first sheet of the run.
@@ -24,8 +25,8 @@ pub struct Granted {
 // The new number and the first sheet; or 9, 10 or 11. Nothing changes. A run is looked for only where the program has room for the ticket:
 // that is a look at every entry.
 #[tactic(auto, using(op_check::proofs::Chains::chain), unfolding(machine::specs::Take::take_refusal, machine::specs::Refusal::is_spent))]
-pub fn allowed(image: &[u8], r: Request) -> Result<Granted, Refusal>
-    requires { (length image.now ≡ image_size) × Asks 1 r }
+pub fn allowed(image: &Image, r: Request) -> Result<Granted, Refusal>
+    requires { Asks 1 r }
     ensures { Decides (decode image.now) r result }
 {
     let p = op_outcome::seat(image, r.pad, r.program);
@@ -47,8 +48,8 @@ pub fn allowed(image: &[u8], r: Request) -> Result<Granted, Refusal>
 
 // A run of free sheets is taken, its bytes set to 0.
 #[tactic(auto, using(image::proofs::RoundTrip::image_whole))]
-pub fn take(image: &mut [u8], store: &mut [u8], r: Request) -> Answer
-    requires { (is_image image.old ≡ true) × ((length store.old ≡ 16384) × Asks 1 r) }
+pub fn take(image: &mut Image, store: &mut Store, r: Request) -> Answer
+    requires { (is_image image.old ≡ true) × Asks 1 r }
     ensures { (sheet : List ℕ) → Serves (serve (state_of (decode image.old) store.old sheet) r) result image.new store.new sheet }
 {
     let granted = match allowed(image, r) {

@@ -3,16 +3,16 @@
 
 #![tactic(auto)]
 
-ghost use Rattle.std.specs.Prelude.{◌≡◌, ◌&&◌, length};
+ghost use Rattle.std.specs.Prelude.{◌≡◌, ◌&&◌};
 ghost use Rattle.tables.specs.Order.{in_order};
-ghost use Rattle.image.specs.Layout.{image_size};
 ghost use Rattle.image.specs.Image.{decode, is_image};
+
+use image::Image;
 
 // Is it an image, and are its tables in order? T1, T2 and T4 first: they need nothing but the programs, one by one. T1 makes the numbers an
 // index of the tickets for T3, T5 and T6, and T5 notes for T6 where the entries are and lists the grants that need a recall. T3, T5 and T6
 // look only at the places that are listed for them.
-pub fn image_in_order(image: &[u8]) -> bool
-    requires { length image.now ≡ image_size }
+pub fn image_in_order(image: &Image) -> bool
     ensures { result ≡ (is_image image.now && in_order (decode image.now)) }
 {
     let mut numbers = [0u16; 256];

@@ -2,12 +2,12 @@
 
 #![tactic(auto)]
 
-ghost use Rattle.std.specs.Prelude.{◌≡◌, false, length, replicate, is_some, IfSome, MatchOption};
-ghost use Rattle.image.specs.Layout.{image_size};
+ghost use Rattle.std.specs.Prelude.{◌≡◌, false, replicate, is_some, IfSome, MatchOption};
 ghost use Rattle.image.specs.Image.{lives_ok};
 ghost use Rattle.image_read.specs.Places.{tickets_in, entries_in};
 ghost use Rattle.order_entry_notes.specs.Notes.{GrantAt, Noting, Listed, note_of, has_grant};
 
+use image::Image;
 use tables::{Entry, Name};
 
 // How many entries are listed as under the store, and how many as under others?
@@ -19,8 +19,7 @@ pub struct Entries {
 
 // The place of the grant that an entry names, where it suits the entry.
 #[tactic(auto, using(image_read::proofs::Places::tickets_long, crate::proofs::Noting::place_missing, crate::proofs::Noting::place_unfit, crate::proofs::Noting::place_fit))]
-fn grant_place(image: &[u8], numbers: &[u16], e: Entry) -> Option<usize>
-    requires { (length image.now ≡ image_size) × (length numbers.now ≡ 256) }
+fn grant_place(image: &Image, numbers: &[u16; 256], e: Entry) -> Option<usize>
     ensures { MatchOption result (has_grant (tickets_in image.now) numbers.now e ≡ false) (GrantAt (tickets_in image.now) numbers.now e) }
 {
     let p = image_places::place_of(numbers, e.name);
@@ -35,14 +34,14 @@ fn grant_place(image: &[u8], numbers: &[u16], e: Entry) -> Option<usize>
 // beside the latter the places of their grants. A place is written behind each list's end, and only the list that it belongs to grows: no
 // branch depends on which that is. None where an entry is neither live nor not, or names no grant that suits it, or two name one.
 pub fn note_entries(
-    image: &[u8],
-    numbers: &[u16],
-    notes: &mut [u16],
-    roots: &mut [u16],
-    hung: &mut [u16],
-    received: &mut [u16],
+    image: &Image,
+    numbers: &[u16; 256],
+    notes: &mut [u16; 256],
+    roots: &mut [u16; 256],
+    hung: &mut [u16; 256],
+    received: &mut [u16; 256],
 ) -> Option<Entries>
-    requires { (length image.now ≡ image_size) × ((length numbers.now ≡ 256) × ((notes.old ≡ replicate 256 256) × ((length roots.old ≡ 256) × ((length hung.old ≡ 256) × (length received.old ≡ 256))))) }
+    requires { notes.old ≡ replicate 256 256 }
     ensures { Noting (lives_ok image.now) (tickets_in image.now) numbers.now (entries_in image.now) notes.new (is_some result) × IfSome result (λ n. Listed numbers.now (entries_in image.now) roots.new hung.new received.new n.roots n.hung) }
 {
     let mut listed = Entries { roots: 0, hung: 0 };
@@ -70,8 +69,7 @@ pub fn note_entries(
 
 // The place of the entry of a name, or 256.
 #[tactic(auto, using(crate::proofs::NoteSteps::note_none, crate::proofs::NoteSteps::note_here))]
-pub fn note_of(numbers: &[u16], notes: &[u16], n: Name) -> u16
-    requires { (length numbers.now ≡ 256) × (length notes.now ≡ 256) }
+pub fn note_of(numbers: &[u16; 256], notes: &[u16; 256], n: Name) -> u16
     ensures { result ≡ note_of numbers.now notes.now n }
 {
     let p = image_places::place_of(numbers, n);

@@ -4,17 +4,17 @@
 
 #![tactic(auto)]
 
-ghost use Rattle.std.specs.Prelude.{◌<◌, ◌≡◌, ◌&&◌, length, replicate, is_some, IfSome};
+ghost use Rattle.std.specs.Prelude.{◌<◌, ◌≡◌, ◌&&◌, replicate, is_some, IfSome};
 ghost use Rattle.lists.specs.Tests.{between};
 ghost use Rattle.tables.specs.declared.Tables.{Tables};
 ghost use Rattle.tables.specs.Lookup.{Sized};
 ghost use Rattle.tables.specs.Order.{t1, t2, t4};
-ghost use Rattle.image.specs.Layout.{image_size};
 ghost use Rattle.image.specs.Image.{kinds_ok};
 ghost use Rattle.image_places.specs.Places.{Flattened};
 ghost use Rattle.image_read.specs.Places.{tickets_in, lasts_in};
 ghost use Rattle.order_programs.specs.Parts.{grant_ok, is_new, ticket_ok, Indexed};
 
+use image::Image;
 use tables::{Name, Ticket};
 
 // How many taken grants, children and recalls are listed?
@@ -55,8 +55,8 @@ fn grant_ok(n: Name, k: Ticket) -> bool
 
 // T1, T2 and T4, of the ticket at a place: its number is looked for among those of the places before it in its program.
 #[tactic(auto, unfolding(crate::specs::Parts::ticket_ok))]
-fn ticket_ok(image: &[u8], numbers: &[u16], at: usize, k: Ticket) -> bool
-    requires { (length image.now ≡ image_size) × ((length numbers.now ≡ 256) × (at < 256)) }
+fn ticket_ok(image: &Image, numbers: &[u16; 256], at: usize, k: Ticket) -> bool
+    requires { at < 256 }
     ensures { result ≡ ticket_ok (lasts_in image.now) numbers.now at k }
 {
     let program = at / 8;
@@ -69,13 +69,13 @@ fn ticket_ok(image: &[u8], numbers: &[u16], at: usize, k: Ticket) -> bool
 // live ticket's place is written behind each list's end, and only the list that it belongs to grows: no branch depends on which that is.
 // None where kinds, numbers, spans or dock names are not as they should be.
 pub fn programs_ok(
-    image: &[u8],
-    numbers: &mut [u16],
-    taken: &mut [u16],
-    children: &mut [u16],
-    recalls: &mut [u16],
+    image: &Image,
+    numbers: &mut [u16; 256],
+    taken: &mut [u16; 256],
+    children: &mut [u16; 256],
+    recalls: &mut [u16; 256],
 ) -> Option<Tickets>
-    requires { (length image.now ≡ image_size) × ((numbers.old ≡ replicate 256 0) × ((length taken.old ≡ 256) × ((length children.old ≡ 256) × (length recalls.old ≡ 256)))) }
+    requires { numbers.old ≡ replicate 256 0 }
     ensures { ((t : Tables) → Sized t → Flattened t (tickets_in image.now) (lasts_in image.now) → is_some result ≡ (kinds_ok image.now && (t1 t && t2 t && t4 t))) × IfSome result (λ n. Indexed (tickets_in image.now) numbers.new taken.new children.new recalls.new n.taken n.children n.recalls) }
 {
     let mut listed = Tickets {

@@ -3,14 +3,14 @@
 
 #![tactic(auto)]
 
-ghost use Rattle.std.specs.Prelude.{◌≡◌, map, eqb, length, replicate};
+ghost use Rattle.std.specs.Prelude.{◌≡◌, map, eqb, replicate};
 ghost use Rattle.lists.specs.Lists.{all, no_two};
 ghost use Rattle.tables.specs.Kinds.{is_recall};
-ghost use Rattle.image.specs.Layout.{image_size};
 ghost use Rattle.image_read.specs.Places.{tickets_in};
 ghost use Rattle.order_lists.specs.Listing.{TicketsListed, AllBelow};
 ghost use Rattle.order_recall_marks.specs.Keys.{key_of, target_key, is_dead, KeysListed, Marked, is_marked};
 
+use image::Image;
 use tables::{Name, Ticket};
 
 // The key of a target: its place, or where it has none a number above 256 of its own.
@@ -28,8 +28,7 @@ fn key_of(place: usize, target: Name) -> usize
 
 // The key of a recall's target; 256 for any other ticket.
 #[tactic(auto, unfolding(crate::specs::Keys::target_key))]
-fn target_key(numbers: &[u16], k: Ticket) -> usize
-    requires { length numbers.now ≡ 256 }
+fn target_key(numbers: &[u16; 256], k: Ticket) -> usize
     ensures { result ≡ target_key numbers.now k }
 {
     if k.kind.is_recall() {
@@ -40,8 +39,8 @@ fn target_key(numbers: &[u16], k: Ticket) -> usize
 }
 
 // The keys of all places. `keys` is lent with 256 at each place, and only those of recalls are written.
-pub fn write_keys(image: &[u8], numbers: &[u16], recalls: &[u16], keys: &mut [usize])
-    requires { (length image.now ≡ image_size) × ((length numbers.now ≡ 256) × ((keys.old ≡ replicate 256 256) × TicketsListed (λ k. is_recall k.kind) (tickets_in image.now) recalls.now)) }
+pub fn write_keys(image: &Image, numbers: &[u16; 256], recalls: &[u16], keys: &mut [usize; 256])
+    requires { (keys.old ≡ replicate 256 256) × TicketsListed (λ k. is_recall k.kind) (tickets_in image.now) recalls.now }
     ensures { keys.new ≡ map (target_key numbers.now) (tickets_in image.now) }
 {
     for &at in recalls {
@@ -53,7 +52,7 @@ pub fn write_keys(image: &[u8], numbers: &[u16], recalls: &[u16], keys: &mut [us
 // No place is the target of two recalls. The places of targets are marked on the way.
 #[tactic(auto, using(crate::proofs::Seen::marks_not))]
 pub fn mark_places(keys: &[usize; 256], recalls: &[u16], marks: &mut [u8; 256]) -> bool
-    requires { (length keys.now ≡ 256) × ((marks.old ≡ replicate 256 0) × KeysListed keys.now recalls.now) }
+    requires { (marks.old ≡ replicate 256 0) × KeysListed keys.now recalls.now }
     ensures { Marked keys.now marks.new result }
 {
     for &at in recalls {
@@ -70,7 +69,7 @@ pub fn mark_places(keys: &[usize; 256], recalls: &[u16], marks: &mut [u8; 256]) 
 
 // No target without a place has two recalls. Such targets are few: each is looked for among those before it.
 pub fn dead_once(keys: &[usize; 256], recalls: &[u16]) -> bool
-    requires { (length keys.now ≡ 256) × KeysListed keys.now recalls.now }
+    requires { KeysListed keys.now recalls.now }
     ensures { result ≡ no_two is_dead eqb keys.now }
 {
     let mut dead = [0usize; 256];

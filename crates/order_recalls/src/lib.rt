@@ -4,24 +4,23 @@
 
 #![tactic(auto)]
 
-ghost use Rattle.std.specs.Prelude.{◌+◌, ◌*◌, ◌≡◌, not, ◌&&◌, map, length, get_or};
+ghost use Rattle.std.specs.Prelude.{◌+◌, ◌*◌, ◌≡◌, not, ◌&&◌, map, get_or};
 ghost use Rattle.lists.specs.Tests.{between};
 ghost use Rattle.tables.specs.declared.Tables.{Tables};
 ghost use Rattle.tables.specs.Kinds.{is_child, is_recall};
 ghost use Rattle.tables.specs.Names.{is_program, free};
 ghost use Rattle.tables.specs.Order.{every_ticket, t6};
-ghost use Rattle.image.specs.Layout.{image_size};
 ghost use Rattle.image_read.specs.Places.{tickets_in, lasts_in, entries_in};
 ghost use Rattle.order_lists.specs.Listing.{TicketsListed, ReceivedListed};
 ghost use Rattle.order_recall_marks.specs.Keys.{target_key};
 ghost use Rattle.order_recalls.specs.Recalls.{LaidOut, recall_holds};
 
+use image::Image;
 use tables::Name;
 
 // A name whose number its program was given: between 1 and the last.
 #[tactic(auto, unfolding(tables::specs::Names::is_program))]
-fn was_given(image: &[u8], n: Name) -> bool
-    requires { length image.now ≡ image_size }
+fn was_given(image: &Image, n: Name) -> bool
     ensures { result ≡ (is_program n.pad n.program && between 1 (get_or (lasts_in image.now) (8 * n.pad + n.program) 0) n.number) }
 {
     if 3 < n.pad || 7 < n.program {
@@ -33,16 +32,14 @@ fn was_given(image: &[u8], n: Name) -> bool
 
 // A name that a recall of another pad may have: it was given, and is no live child.
 #[tactic(auto, using(image_read::proofs::Places::tickets_long))]
-fn may_name(image: &[u8], n: Name, key: usize) -> bool
-    requires { length image.now ≡ image_size }
+fn may_name(image: &Image, n: Name, key: usize) -> bool
     ensures { result ≡ (is_program n.pad n.program && between 1 (get_or (lasts_in image.now) (8 * n.pad + n.program) 0) n.number && not (is_child (get_or (tickets_in image.now) key free).kind)) }
 {
     was_given(image, n) && (256 <= key || !image_read::ticket_at(image, key).kind.is_child())
 }
 
 // The place of the entry of a target, by its key; 256 where there is none.
-fn note_of(notes: &[u16], key: usize) -> usize
-    requires { length notes.now ≡ 256 }
+fn note_of(notes: &[u16; 256], key: usize) -> usize
     ensures { result ≡ get_or notes.now key 256 }
 {
     if key < 256 {
@@ -55,13 +52,13 @@ fn note_of(notes: &[u16], key: usize) -> usize
 // Each recall by itself: its parent is a grant with the pass on right, and its target a child of that grant, or a name on another pad whose
 // entry, if there is one, lies within the grant.
 fn each_holds(
-    image: &[u8],
-    numbers: &[u16],
-    notes: &[u16],
+    image: &Image,
+    numbers: &[u16; 256],
+    notes: &[u16; 256],
     recalls: &[u16],
     keys: &[usize; 256],
 ) -> bool
-    requires { (length image.now ≡ image_size) × ((length numbers.now ≡ 256) × ((length notes.now ≡ 256) × (TicketsListed (λ k. is_recall k.kind) (tickets_in image.now) recalls.now × (keys.now ≡ map (target_key numbers.now) (tickets_in image.now))))) }
+    requires { TicketsListed (λ k. is_recall k.kind) (tickets_in image.now) recalls.now × (keys.now ≡ map (target_key numbers.now) (tickets_in image.now)) }
     ensures { (t : Tables) → LaidOut t image.now numbers.now notes.now → result ≡ every_ticket is_recall (recall_holds t) t }
 {
     for &at in recalls {
@@ -104,14 +101,14 @@ fn each_holds(
 // T6, in tables whose numbers are distinct (T1) and whose entries are noted at their grants' places. Children, and the grants that entries
 // under others name, need a recall. Where there are none of these and no recall, there is nothing to test.
 pub fn recalls_ok(
-    image: &[u8],
-    numbers: &[u16],
-    notes: &[u16],
+    image: &Image,
+    numbers: &[u16; 256],
+    notes: &[u16; 256],
     children: &[u16],
     recalls: &[u16],
     received: &[u16],
 ) -> bool
-    requires { (length image.now ≡ image_size) × ((length numbers.now ≡ 256) × ((length notes.now ≡ 256) × ((TicketsListed (λ k. is_child k.kind) (tickets_in image.now) children.now × TicketsListed (λ k. is_recall k.kind) (tickets_in image.now) recalls.now) × ReceivedListed numbers.now (entries_in image.now) received.now))) }
+    requires { (TicketsListed (λ k. is_child k.kind) (tickets_in image.now) children.now × TicketsListed (λ k. is_recall k.kind) (tickets_in image.now) recalls.now) × ReceivedListed numbers.now (entries_in image.now) received.now }
     ensures { (t : Tables) → LaidOut t image.now numbers.now notes.now → result ≡ t6 t }
 {
     if recalls.is_empty() && children.is_empty() && received.is_empty() {

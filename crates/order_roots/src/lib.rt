@@ -3,10 +3,11 @@
 #![tactic(auto)]
 
 ghost use Rattle.std.specs.Prelude.{◌≡◌, ◌+◌, ◌≤◌, length};
-ghost use Rattle.image.specs.Layout.{image_size};
 ghost use Rattle.image_read.specs.Places.{entries_in};
 ghost use Rattle.order_lists.specs.Listing.{EntriesListed, is_root};
 ghost use Rattle.order_roots.specs.Marks.{Marked, Spanned, roots_in};
+
+use image::Image;
 
 // Marks the sheets of a run. The answer is no where one of them is marked already.
 fn mark(marks: &mut [u8], first: usize, count: usize) -> bool
@@ -23,8 +24,8 @@ fn mark(marks: &mut [u8], first: usize, count: usize) -> bool
 }
 
 // Entries directly under the store share no sheet: their sheets are marked one after the other. T2 has no run past the store.
-pub fn roots_apart(image: &[u8], roots: &[u16]) -> bool
-    requires { (length image.now ≡ image_size) × EntriesListed is_root (entries_in image.now) roots.now }
+pub fn roots_apart(image: &Image, roots: &[u16]) -> bool
+    requires { EntriesListed is_root (entries_in image.now) roots.now }
     ensures { Spanned (entries_in image.now) → result ≡ roots_in (entries_in image.now) }
 {
     let mut marks = [0u8; 256];

@@ -33,10 +33,10 @@ pub fn empty(tables: &mut [u8], store: &mut [u8]) -> Result<(), Refusal>
 pub fn in_order(tables: &[u8]) -> Result<(), Refusal>
     ensures { said result ≡ order_of tables.now }
 {
-    if tables.len() != IMAGE {
+    let Some(image) = tables.as_array() else {
         return Err(Refusal::Length);
-    }
-    if !order::image_in_order(tables) {
+    };
+    if !order::image_in_order(image) {
         return Err(Refusal::NotInOrder);
     }
     Ok(())
@@ -48,7 +48,7 @@ pub fn check(tables: &[u8], n: Name, sheet: u16, right: u16) -> Result<(), Refus
     ensures { said result ≡ check_image tables.now n.pad n.program n.number sheet right }
 {
     in_order(tables)?;
-    let e = image_find::entry(tables, n);
+    let e = image_find::entry(tables.as_array().unwrap(), n);
     op_check::check(e, usize::from(sheet), right)
 }
 

@@ -5,12 +5,12 @@
 
 ghost use Rattle.std.specs.Prelude.{◌≤◌, ◌≡◌, length, IfOk, IfSome};
 ghost use Rattle.text.specs.Bytes.{same_bytes};
-ghost use Rattle.trace_texts.specs.Trace.{trace_room, trace};
+ghost use Rattle.trace_texts.specs.Trace.{trace};
 
 use std::io::{self, Read};
 use std::rt::Files;
 use std::{env, fs};
-use text_trace::LONGEST;
+use text_trace::{LONGEST, ROOM};
 
 // ---- a file
 
@@ -62,8 +62,7 @@ fn read_part(
 
 // Is the trace of the input what is expected, byte for byte? The buffer is for the trace.
 #[tactic(auto, using(text_trace::proofs::WholeTrace::whole_in_buffer))]
-fn traces_to(input: &[u8], expected: &[u8], out: &mut [u8]) -> bool
-    requires { length out.old ≡ trace_room }
+fn traces_to(input: &[u8], expected: &[u8], out: &mut [u8; ROOM]) -> bool
     ensures { result ≡ same_bytes (trace input.now) expected.now }
 {
     let size = text_trace::trace(input, out);
@@ -76,10 +75,8 @@ fn agrees(
     name: &str,
     input: &mut [u8],
     expected: &mut [u8],
-    out: &mut [u8],
-) -> io::Result<bool>
-    requires { length out.old ≡ trace_room }
-{
+    out: &mut [u8; ROOM],
+) -> io::Result<bool> {
     let Some(n) = read_part(rt, name, ".in", input)? else {
         return Ok(false);
     };

@@ -13,6 +13,7 @@ ghost use Rattle.text_loans.specs.Walk.{Ordered, ticket_in};
 ghost use Rattle.text_notes.specs.Notes.{Noted};
 ghost use Rattle.text_blocks.specs.Rows.{number_row, grant_row, ticket_row_at, entry_row_at};
 
+use image::Image;
 use image_places::{PAD, PROGRAM};
 use saved::Row;
 use tables::{Entry, Kind, Name, Ticket};
@@ -97,7 +98,7 @@ fn entry_row(e: Entry) -> Row
 // ---- one line goes behind the `at` bytes of the output that stand
 
 // A program's last number.
-fn put_last(image: &[u8], out: &mut [u8], at: usize, program: usize) -> usize
+fn put_last(image: &Image, out: &mut [u8], at: usize, program: usize) -> usize
     requires { Ordered image.now × ((program < 32) × Countable at (line_of (last_row (decode image.now) program))) }
     ensures { Appends (line_of (last_row (decode image.now) program)) out.old out.new at result }
 {
@@ -107,7 +108,7 @@ fn put_last(image: &[u8], out: &mut [u8], at: usize, program: usize) -> usize
 }
 
 // The ticket at a place.
-fn put_ticket(image: &[u8], out: &mut [u8], at: usize, place: usize) -> usize
+fn put_ticket(image: &Image, out: &mut [u8], at: usize, place: usize) -> usize
     requires { Ordered image.now × ((place < 256) × Countable at (line_of (ticket_row_at image.now place))) }
     ensures { Appends (line_of (ticket_row_at image.now place)) out.old out.new at result }
 {
@@ -117,7 +118,7 @@ fn put_ticket(image: &[u8], out: &mut [u8], at: usize, place: usize) -> usize
 }
 
 // The entry of the grant at a place.
-fn put_entry(image: &[u8], notes: &[u16], out: &mut [u8], at: usize, place: usize) -> usize
+fn put_entry(image: &Image, notes: &[u16; 256], out: &mut [u8], at: usize, place: usize) -> usize
     requires { Ordered image.now × (Noted image.now notes.now × ((place < 256) × ((has_entry (decode image.now) (ticket_in image.now place) ≡ true) × Countable at (line_of (entry_row_at image.now place))))) }
     ensures { Appends (line_of (entry_row_at image.now place)) out.old out.new at result }
 {
@@ -128,7 +129,7 @@ fn put_entry(image: &[u8], notes: &[u16], out: &mut [u8], at: usize, place: usiz
 // ---- the lines of a program, counted over all pads, by number
 
 // Its tickets of a kind.
-fn put_tickets(image: &[u8], out: &mut [u8], at: usize, kind: u16, program: usize) -> usize
+fn put_tickets(image: &Image, out: &mut [u8], at: usize, kind: u16, program: usize) -> usize
     requires { Ordered image.now × (((program < 32) × ((1 ≤ kind) × (kind ≤ 4))) × Countable at (lines_of (ticket_lines (decode image.now) kind program))) }
     ensures { Appends (lines_of (ticket_lines (decode image.now) kind program)) out.old out.new at result }
 {
@@ -142,7 +143,13 @@ fn put_tickets(image: &[u8], out: &mut [u8], at: usize, kind: u16, program: usiz
 }
 
 // The entries of its grants.
-fn put_entries(image: &[u8], notes: &[u16], out: &mut [u8], at: usize, program: usize) -> usize
+fn put_entries(
+    image: &Image,
+    notes: &[u16; 256],
+    out: &mut [u8],
+    at: usize,
+    program: usize,
+) -> usize
     requires { Ordered image.now × ((Noted image.now notes.now × (program < 32)) × Countable at (lines_of (entry_lines (decode image.now) program))) }
     ensures { Appends (lines_of (entry_lines (decode image.now) program)) out.old out.new at result }
 {
@@ -158,7 +165,7 @@ fn put_entries(image: &[u8], notes: &[u16], out: &mut [u8], at: usize, program: 
 // ---- all lines
 
 // Block m has the lines of the kind m / 32 of the program m % 32.
-fn put_block(image: &[u8], notes: &[u16], out: &mut [u8], at: usize, m: usize) -> usize
+fn put_block(image: &Image, notes: &[u16; 256], out: &mut [u8], at: usize, m: usize) -> usize
     requires { Ordered image.now × ((Noted image.now notes.now × (m < blocks)) × Countable at (lines_of (block (decode image.now) m))) }
     ensures { Appends (lines_of (block (decode image.now) m)) out.old out.new at result }
 {
@@ -171,7 +178,7 @@ fn put_block(image: &[u8], notes: &[u16], out: &mut [u8], at: usize, m: usize) -
     }
 }
 
-fn put_blocks(image: &[u8], notes: &[u16], out: &mut [u8], at: usize) -> usize
+fn put_blocks(image: &Image, notes: &[u16; 256], out: &mut [u8], at: usize) -> usize
     requires { Ordered image.now × (Noted image.now notes.now × Countable at (lines_of (joined blocks (block (decode image.now))))) }
     ensures { Appends (lines_of (joined blocks (block (decode image.now)))) out.old out.new at result }
 {
@@ -183,7 +190,7 @@ fn put_blocks(image: &[u8], notes: &[u16], out: &mut [u8], at: usize) -> usize
 }
 
 // The lines of all blocks go behind the `at` bytes of the output that stand, if they have room there. Their length counts in any case.
-pub fn put_rows(image: &[u8], out: &mut [u8], at: usize) -> usize
+pub fn put_rows(image: &Image, out: &mut [u8], at: usize) -> usize
     requires { Ordered image.now × Countable at (lines_of (joined blocks (block (decode image.now)))) }
     ensures { Appends (lines_of (joined blocks (block (decode image.now)))) out.old out.new at result }
 {

@@ -3,14 +3,15 @@
 
 #![tactic(auto)]
 
-ghost use Rattle.std.specs.Prelude.{◌+◌, ◌<◌, ◌≡◌, true, cond, List, ◌∷◌, ltb, eqb, length, get_or};
+ghost use Rattle.std.specs.Prelude.{◌+◌, ◌<◌, ◌≡◌, true, cond, List, ◌∷◌, ltb, eqb, get_or};
 ghost use Rattle.tables.specs.Names.{no_name};
 ghost use Rattle.image.specs.Image.{is_image};
 ghost use Rattle.saved.specs.declared.Row.{Row};
 ghost use Rattle.saved.specs.Row.{name_in, row_ok};
 ghost use Rattle.saved.specs.Load.{ticket_from, entry_from};
-ghost use Rattle.text_fill.specs.Filling.{sorts, sort_of, most_of, Tallied, Filled};
+ghost use Rattle.text_fill.specs.Filling.{sort_of, most_of, Tallied, Filled};
 
+use image::Image;
 use image_places::PROGRAM;
 use rights::Rights;
 use saved::Row;
@@ -52,8 +53,8 @@ fn most_of(r: Row) -> u16
 
 // Is there room for one more of its sort?
 #[tactic(auto, using(crate::proofs::Sorts::sort_low))]
-pub fn has_room(tally: &[u16], r: Row) -> bool
-    requires { (length tally.now ≡ sorts) × (row_ok r ≡ true) }
+pub fn has_room(tally: &[u16; SORTS], r: Row) -> bool
+    requires { row_ok r ≡ true }
     ensures { result ≡ ltb (get_or tally.now (sort_of r) 0) (most_of r) }
 {
     tally[sort_of(r)] < most_of(r)
@@ -117,8 +118,8 @@ fn entry_in(r: Row) -> Entry
 
 // The line fills the next place of its sort, and is counted.
 #[tactic(auto, using(crate::proofs::Sorts::sort_low, crate::proofs::Sorts::most_high))]
-pub fn put_row(image: &mut [u8], tally: &mut [u16], r: Row)
-    requires { (is_image image.old ≡ true) × ((length tally.old ≡ sorts) × ((row_ok r ≡ true) × (get_or tally.old (sort_of r) 0 < most_of r))) }
+pub fn put_row(image: &mut Image, tally: &mut [u16; SORTS], r: Row)
+    requires { (is_image image.old ≡ true) × ((row_ok r ≡ true) × (get_or tally.old (sort_of r) 0 < most_of r)) }
     ensures tallied { (before : List Row) → Tallied before tally.old → Tallied (r ∷ before) tally.new }
     ensures filled { (before : List Row) → Tallied before tally.old → Filled before image.old → Filled (r ∷ before) image.new }
 {

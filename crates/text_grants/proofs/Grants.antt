@@ -24,7 +24,7 @@ use Rattle.image_numbers.specs.declared.Walk.{Walk}
 use Rattle.image_numbers.specs.Numbers.{numbers_in, NoneAbove, NextAbove}
 use Rattle.image_numbers.specs.Steps.{NextPlace}
 use Rattle.image_numbers.proofs.ByNumber.{Stands, next_stands, next_name, next_none}
-use Rattle.text_marks.specs.Marks.{marked_in, unmarked}
+use Rattle.text_marks.specs.Marks.{mark_bytes, marked_in, unmarked}
 use Rattle.text_marks.proofs.Laws.{unmarked_most}
 use Rattle.report.specs.Rows.{is_listed}
 use Rattle.report.specs.Marked.{visit}
@@ -117,20 +117,21 @@ module _ (image : List ℕ) (program : ℕ) where
 
 -- ---- where the loop stands
 pub record Going (image marks₀ out₀ : List ℕ) (so_far : Printing) (program : ℕ) (walk : Walk) (marks out : List ℕ) (end sheets : ℕ) : Type 0 where
-  pub size : length marks ≡ length marks₀
+  pub size : length marks ≡ mark_bytes
   pub long : length out ≡ length out₀
   pub is : walk.numbers ≡ grants image program
   pub given : walk.after ≤ last image program
   pub text : Visited (decode image) 0 (taken_to image program walk.after) marks₀ marks out₀ out so_far.end end
   pub sum : sheets ≡ so_far.sheets + sheets_of (decode image) (taken_to image program walk.after)
 
-pub going_none : (image marks out : List ℕ) (so_far : Printing) (program : ℕ) (numbers : List ℕ) (walk : Walk) → numbers ≡ grants image program
+pub going_none : (image marks out : List ℕ) (so_far : Printing) (program : ℕ) (numbers : List ℕ) (walk : Walk)
+    → length marks ≡ mark_bytes → numbers ≡ grants image program
     → walk ≡ record { numbers = numbers; after = 0 } → Going image marks out so_far program walk marks out so_far.end so_far.sheets
 unfolding total
-going_none image marks out so_far program numbers walk is start =
+going_none image marks out so_far program numbers walk size is start =
     subst (λ (w : Walk). Going image marks out so_far program w marks out so_far.end so_far.sheets) (sym start)
     (record {
-      size = refl;
+      size = size;
       long = refl;
       is = is;
       given = omega arith;
@@ -178,14 +179,14 @@ module _ (image marks₀ out₀ : List ℕ) (so_far : Printing) (program : ℕ) 
     going_fits = record {
       tables = ready.tables;
       grant = grant_there image program ready.tables low walk.after i next;
-      scratch = g.size ∙ ready.scratch;
+      scratch = g.size;
       room = room_left (decode image) 0 ready.tables.order (taken_to image program walk.after) (taken_listed_lem image program ready.tables walk.after)
           marks₀ marks out₀ out so_far.end end g.text shallow ready.room;
       shallow = omega (arith, unmarked_most (marked_in marks));
     }
 
     pub going_more : (count : ℕ) → count ≡ (ticket_in image (8 * program + i)).count
-        → (marks' out' : List ℕ) (r : ℕ) → length marks' ≡ length marks → length out' ≡ length out
+        → (marks' out' : List ℕ) (r : ℕ) → length marks' ≡ mark_bytes → length out' ≡ length out
         → Printed (λ left. visit (decode image) left 0 (marked_in marks) (name_in image (8 * program + i))) marks marks' out out' end r
         → Going image marks₀ out₀ so_far program walk' marks' out' r (sheets + count)
     going_more count is marks' out' r size long printed =
@@ -195,7 +196,7 @@ module _ (image marks₀ out₀ : List ℕ) (so_far : Printing) (program : ℕ) 
         let added_now : sheets_of (decode image) (taken_to image program now) ≡ _ = ap (λ (k : ℕ). sheets_of (decode image) (taken_to image program k)) is_number ∙ added in
         subst (λ (w : Walk). Going image marks₀ out₀ so_far program w marks' out' r (sheets + count)) (sym step.1)
         (record {
-          size = size ∙ g.size;
+          size = size;
           long = long ∙ g.long;
           is = g.is;
           given = omega (arith, is_number, given_next image program ready.tables low walk.after i next);

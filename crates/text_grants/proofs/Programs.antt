@@ -17,7 +17,7 @@ use Rattle.tables.specs.Kinds.{is_taken}
 use Rattle.tables.specs.Lookup.{lookup, names_of}
 use Rattle.tables.proofs.ByNumber.{named}
 use Rattle.image.specs.Image.{decode}
-use Rattle.text_marks.specs.Marks.{marked_in, unmarked}
+use Rattle.text_marks.specs.Marks.{mark_bytes, marked_in, unmarked}
 use Rattle.text_marks.proofs.Laws.{unmarked_most}
 use Rattle.preservation.specs.InOrder.{InOrder}
 use Rattle.report.specs.Rows.{is_listed, taken_grants, rows}
@@ -70,14 +70,14 @@ abbrev pub started : ℕ → Printing
 started at = record { end = at; sheets = 0 }
 
 pub record Round (image marks₀ out₀ : List ℕ) (at : ℕ) (marks out : List ℕ) (printing : Printing) (program : ℕ) : Type 0 where
-  pub size : length marks ≡ length marks₀
+  pub size : length marks ≡ mark_bytes
   pub long : length out ≡ length out₀
   pub done : Puts (decode image) (grants_to (decode image) program) marks₀ marks out₀ out (started at) printing
 
-pub round_none : (image marks out : List ℕ) (at : ℕ) → Round image marks out at marks out (started at) 0
+pub round_none : (image marks out : List ℕ) (at : ℕ) → length marks ≡ mark_bytes → Round image marks out at marks out (started at) 0
 unfolding total
-round_none image marks out at = record {
-  size = refl;
+round_none image marks out at size = record {
+  size = size;
   long = refl;
   done = record {
     text = visited_as (decode image) 0 _ _ marks marks out out at at (sym (grants_none (decode image))) (visited_none (decode image) 0 marks out at);
@@ -102,7 +102,7 @@ module _ (image marks₀ out₀ : List ℕ) (at : ℕ) (marks out : List ℕ) (p
     pub round_ready : Ready image marks printing.end
     round_ready = record {
       tables = ready.tables;
-      scratch = round.size ∙ ready.scratch;
+      scratch = round.size;
       room = room_left t 0 ready.tables.order (grants_to t program) (grants_listed t ready.tables.order program) marks₀ marks out₀ out at
           printing.end round.done.text shallow ready.room;
     }
@@ -116,10 +116,10 @@ module _ (image marks₀ out₀ : List ℕ) (at : ℕ) (marks out : List ℕ) (p
           sheets_most t ready.tables.order (program + 1) (omega arith),
         )
 
-    pub round_more : (marks' out' : List ℕ) (next : Printing) → length marks' ≡ length marks → length out' ≡ length out
+    pub round_more : (marks' out' : List ℕ) (next : Printing) → length marks' ≡ mark_bytes → length out' ≡ length out
         → Puts t (taken_of t program) marks marks' out out' printing next → Round image marks₀ out₀ at marks' out' next (program + 1)
     round_more marks' out' next size long puts = record {
-      size = size ∙ round.size;
+      size = size;
       long = long ∙ round.long;
       done = record {
         text = visited_as t 0 _ _ marks₀ marks' out₀ out' at next.end (sym (grants_more t program))

@@ -8,7 +8,9 @@ ghost use Rattle.report.specs.Rows.{taken_grants};
 ghost use Rattle.text_loans.specs.Walk.{Ordered, ticket_in};
 ghost use Rattle.text_grants.specs.Grants.{taken_of, sheets_of, Ready, Puts};
 
+use image::Image;
 use image_places::PROGRAM;
+use text_marks::Marks;
 
 // How far the text has come, and the sheets of the depth 0 lines in it.
 #[derive(Clone, Copy)]
@@ -17,7 +19,7 @@ pub struct Printing {
     pub sheets: u16,
 }
 
-fn count_at(image: &[u8], place: usize) -> u16
+fn count_at(image: &Image, place: usize) -> u16
     requires { Ordered image.now × (place < 256) }
     ensures { result ≡ (ticket_in image.now place).count }
 {
@@ -26,8 +28,8 @@ fn count_at(image: &[u8], place: usize) -> u16
 
 // The taken grants of a program, counted over all pads, by number.
 fn put_program(
-    image: &[u8],
-    marks: &mut [u8],
+    image: &Image,
+    marks: &mut Marks,
     out: &mut [u8],
     before: Printing,
     program: usize,
@@ -48,7 +50,7 @@ fn put_program(
 }
 
 // Those of all programs, by pad and program.
-pub fn put_taken(image: &[u8], marks: &mut [u8], out: &mut [u8], at: usize) -> Printing
+pub fn put_taken(image: &Image, marks: &mut Marks, out: &mut [u8], at: usize) -> Printing
     requires { Ready image.now marks.old at }
     ensures { Puts (decode image.now) (taken_grants (decode image.now)) marks.old marks.new out.old out.new (record { end = at; sheets = 0 }) result }
 {

@@ -2,25 +2,23 @@
 
 #![tactic(auto)]
 
-ghost use Rattle.std.specs.Prelude.{◌+◌, ◌≤◌, ◌<◌, ◌≡◌, true, ltb, length, get_or, drop, replicate};
+ghost use Rattle.std.specs.Prelude.{◌+◌, ◌≤◌, ◌<◌, ◌≡◌, ltb, length, get_or, drop, replicate};
 ghost use Rattle.lists.specs.Lists.{all};
 ghost use Rattle.machine.specs.Refusal.{said};
 ghost use Rattle.image.specs.Layout.{image_size};
 ghost use Rattle.text.specs.Reading.{lines};
 ghost use Rattle.saved.specs.Save.{programs};
 ghost use Rattle.saved.specs.Load.{is_ended};
-ghost use Rattle.text_fill.specs.Filling.{sorts};
 ghost use Rattle.lending.specs.Saved.{LoadsLent};
 ghost use Rattle.text_load.specs.Reading.{ReadsLines, ReadsText};
 
-use image::IMAGE;
+use image::Image;
 use machine::Refusal;
 use text::LINE_END;
 use text_fill::SORTS;
 
 // Does every program have its kind 0 line?
-fn all_programs(tally: &[u16]) -> bool
-    requires { length tally.now ≡ sorts }
+fn all_programs(tally: &[u16; SORTS]) -> bool
     ensures { result ≡ all (λ i. ltb 0 (get_or tally.now i 0)) programs }
 {
     tally[..32].iter().all(|n| *n != 0)
@@ -28,7 +26,7 @@ fn all_programs(tally: &[u16]) -> bool
 
 // The lines from `start` on fill the image, which is lent as zeros, until one has another form or order.
 #[tactic(auto, using(crate::proofs::Lines::row_in_form, crate::proofs::Lines::key_low))]
-fn read_lines(image: &mut [u8], text: &[u8], start: usize) -> bool
+fn read_lines(image: &mut Image, text: &[u8], start: usize) -> bool
     requires { (image.old ≡ replicate image_size 0) × (start ≤ length text.now + 1) }
     ensures { ReadsLines (lines (drop start text.now)) result image.new }
 {
@@ -66,7 +64,7 @@ fn is_ended(text: &[u8]) -> bool
 }
 
 // The whole text: the names, byte 10 at the end, the lines.
-fn read_text(image: &mut [u8], text: &[u8]) -> bool
+fn read_text(image: &mut Image, text: &[u8]) -> bool
     requires { image.old ≡ replicate image_size 0 }
     ensures { ReadsText text.now result image.new }
 {
@@ -83,17 +81,17 @@ fn read_text(image: &mut [u8], text: &[u8]) -> bool
 pub fn load_lent(tables: &mut [u8], text: &[u8]) -> Result<(), Refusal>
     ensures { LoadsLent tables.old text.now (said result) tables.new }
 {
-    if tables.len() != IMAGE {
+    let Some(image) = tables.as_mut_array() else {
         return Err(Refusal::Length);
-    }
-    tables.fill(0);
-    if !read_text(tables, text) {
-        tables.fill(0);
+    };
+    image.fill(0);
+    if !read_text(image, text) {
+        image.fill(0);
         return Err(Refusal::BadText);
     }
-    text_docks::put_docks(tables);
-    if !order::image_in_order(tables) {
-        tables.fill(0);
+    text_docks::put_docks(image);
+    if !order::image_in_order(image) {
+        image.fill(0);
         return Err(Refusal::NotInOrder);
     }
     Ok(())

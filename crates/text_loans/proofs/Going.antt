@@ -7,7 +7,7 @@ use mathlib.Core.List.{List}
 use lib.ListN.{length, get_or}
 use Rattle.std.specs.Prelude.{Some, None}
 use Rattle.text.specs.Appending.{Countable}
-use Rattle.text_marks.specs.Marks.{marked_in, with_mark, unmarked}
+use Rattle.text_marks.specs.Marks.{mark_bytes, marked_in, with_mark, unmarked}
 use Rattle.text_marks.proofs.Laws.{one_less}
 use Rattle.image.specs.Image.{decode}
 use Rattle.image_numbers.specs.declared.Walk.{Walk}
@@ -22,18 +22,19 @@ use Rattle.text_loans.proofs.Steps.{Visited, visited_none, visited_as, visited_m
 use Rattle.text_loans.proofs.Loans.{recalls, last, loans_to, loans_none, loans_listed, loans_all, given_next, lending, loan_more, loan_listed, loan_none}
 
 pub record Going (image marks₀ out₀ : List ℕ) (at depth place : ℕ) (walk : Walk) (marks out : List ℕ) (total : ℕ) : Type 0 where
-  pub size : length marks ≡ length marks₀
+  pub size : length marks ≡ mark_bytes
   pub long : length out ≡ length out₀
   pub is : walk.numbers ≡ recalls image place
   pub given : walk.after ≤ last image place
   pub done : Visited (decode image) depth (loans_to image place walk.after) marks₀ marks out₀ out at total
 
-pub going_none : (image marks out : List ℕ) (at depth place : ℕ) (numbers : List ℕ) (walk : Walk) → numbers ≡ recalls image place
+pub going_none : (image marks out : List ℕ) (at depth place : ℕ) (numbers : List ℕ) (walk : Walk)
+    → length marks ≡ mark_bytes → numbers ≡ recalls image place
     → walk ≡ record { numbers = numbers; after = 0 } → Going image marks out at depth place walk marks out at
-going_none image marks out at depth place numbers walk is start =
+going_none image marks out at depth place numbers walk size is start =
     subst (λ (w : Walk). Going image marks out at depth place w marks out at) (sym start)
     (record {
-      size = refl;
+      size = size;
       long = refl;
       is = is;
       given = omega arith;
@@ -68,13 +69,13 @@ module _ (image marks₀ out₀ : List ℕ) (at depth place : ℕ) (walk : Walk)
     going_lending = lending image place pre.tables pre.grant walk.after i next
 
     -- as the walk goes on
-    going_on : (marks' out' : List ℕ) (r : ℕ) → length marks' ≡ length marks → length out' ≡ length out
+    going_on : (marks' out' : List ℕ) (r : ℕ) → length marks' ≡ mark_bytes → length out' ≡ length out
         → Visited (decode image) depth (loans_to image place (get_or (recalls image place) i 0)) marks₀ marks' out₀ out' at r
         → Going image marks₀ out₀ at depth place walk' marks' out' r
     going_on marks' out' r size long done =
         subst (λ (w : Walk). Going image marks₀ out₀ at depth place w marks' out' r) (sym step.1)
         (record {
-          size = size ∙ g.size;
+          size = size;
           long = long ∙ g.long;
           is = g.is;
           given = omega (arith, is_number, given_next image place pre.tables pre.grant walk.after i next);
@@ -86,13 +87,13 @@ module _ (image marks₀ out₀ : List ℕ) (at depth place : ℕ) (walk : Walk)
       going_fits = record {
         tables = pre.tables;
         grant = loan_listed image place pre.tables pre.grant walk.after i next loan is;
-        scratch = g.size ∙ pre.scratch;
+        scratch = g.size;
         room = room_left (decode image) depth pre.tables.order (loans_to image place walk.after) (loans_listed image place walk.after) marks₀ marks out₀
             out at total g.done pre.shallow pre.room;
         shallow = omega (arith, pre.shallow, going_fewer);
       }
 
-      pub going_more : (marks' out' : List ℕ) (r : ℕ) → length marks' ≡ length marks → length out' ≡ length out
+      pub going_more : (marks' out' : List ℕ) (r : ℕ) → length marks' ≡ mark_bytes → length out' ≡ length out
           → Printed (λ left. visit (decode image) left depth (marked_in marks) (name_in image loan)) marks marks' out out' total r
           → Going image marks₀ out₀ at depth place walk' marks' out' r
       going_more marks' out' r size long printed =
@@ -105,7 +106,7 @@ module _ (image marks₀ out₀ : List ℕ) (at depth place : ℕ) (walk : Walk)
     pub going_past : None ≡ listed_place (decode image) (ticket_in image (8 * (place / 8) + i)).other
         → Going image marks₀ out₀ at depth place walk' marks out total
     going_past is =
-        going_on marks out total refl refl
+        going_on marks out total g.size refl
         (visited_as (decode image) depth _ _ marks₀ marks out₀ out at total
         (sym (loan_none image place pre.tables pre.grant walk.after i next is)) g.done)
 
@@ -123,14 +124,14 @@ module _ (image marks : List ℕ) (at depth place : ℕ) (pre : Fits image marks
   pub line_fits : Countable at line
   line_fits = omega (arith, pre.room, less, short)
 
-  pub loans_fit : (marks₁ : List ℕ) → length marks₁ ≡ length marks → marked_in marks₁ ≡ with_mark place (marked_in marks)
+  pub loans_fit : (marks₁ : List ℕ) → length marks₁ ≡ mark_bytes → marked_in marks₁ ≡ with_mark place (marked_in marks)
       → (k : ℕ) → k ≡ at + length line → Fits image marks₁ k (depth + 1) place
   loans_fit marks₁ size marked k end =
       let now = ap unmarked marked in
       record {
         tables = pre.tables;
         grant = pre.grant;
-        scratch = size ∙ pre.scratch;
+        scratch = size;
         room = omega (arith, pre.room, less, now, short, end);
         shallow = omega (arith, pre.shallow, less, now);
       }

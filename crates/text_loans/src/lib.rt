@@ -15,13 +15,15 @@ ghost use Rattle.report.specs.Report.{row_line};
 ghost use Rattle.report.specs.Marked.{visits, visit};
 ghost use Rattle.text_loans.specs.Walk.{Ordered, ticket_in, name_in, Listed, Lending, listed_place, Fits, Printed};
 
+use image::Image;
 use image_places::{PAD, PROGRAM};
+use text_marks::Marks;
 
 // No place: one above the highest.
 const NO_PLACE: usize = 256;
 
 // One line goes into the rest of the output, from `at` on.
-fn put_row(image: &[u8], out: &mut [u8], at: usize, depth: u16, place: usize) -> usize
+fn put_row(image: &Image, out: &mut [u8], at: usize, depth: u16, place: usize) -> usize
     requires { Ordered image.now × (Listed image.now place × Countable at (row_line (decode image.now) (row_of depth (name_in image.now place)))) }
     ensures { Appends (row_line (decode image.now) (row_of depth (name_in image.now place))) out.old out.new at result }
 {
@@ -42,7 +44,7 @@ fn put_row(image: &[u8], out: &mut [u8], at: usize, depth: u16, place: usize) ->
 
 // Is the target of the recall at a place listed? On the lender's pad it is, for it has the lender's dock name; on another where its name is
 // in the dock.
-fn is_listed(image: &[u8], place: usize) -> bool
+fn is_listed(image: &Image, place: usize) -> bool
     requires { Ordered image.now × Lending image.now place }
     ensures { result ≡ is_listed (decode image.now) (ticket_in image.now place).other }
 {
@@ -52,7 +54,7 @@ fn is_listed(image: &[u8], place: usize) -> bool
 
 // The place of the target of the recall at a place, if it is listed.
 #[tactic(auto, unfolding(crate::specs::Walk::listed_place))]
-fn loan_place(image: &[u8], place: usize) -> Option<usize>
+fn loan_place(image: &Image, place: usize) -> Option<usize>
     requires { Ordered image.now × Lending image.now place }
     ensures { result ≡ listed_place (decode image.now) (ticket_in image.now place).other }
 {
@@ -65,7 +67,7 @@ fn loan_place(image: &[u8], place: usize) -> Option<usize>
 }
 
 // The numbers of the recalls under the grant at a place, by the places of its program; 0 in the others.
-fn loan_numbers(image: &[u8], place: usize) -> [u16; 8]
+fn loan_numbers(image: &Image, place: usize) -> [u16; 8]
     requires { Ordered image.now × Listed image.now place }
     ensures { result ≡ numbers_in (is_recall_of (name_in image.now place).number) (tickets_in image.now) (place / 8) }
 {
@@ -76,8 +78,8 @@ fn loan_numbers(image: &[u8], place: usize) -> [u16; 8]
 // A ticket's line, followed by its loans.
 #[cycle(put_loans_put_ticket)]
 pub fn put_ticket(
-    image: &[u8],
-    marks: &mut [u8],
+    image: &Image,
+    marks: &mut Marks,
     out: &mut [u8],
     at: usize,
     depth: u16,
@@ -97,8 +99,8 @@ pub fn put_ticket(
 // The loans of the grant at a place, by the numbers of their recalls.
 #[cycle(put_loans_put_ticket)]
 fn put_loans(
-    image: &[u8],
-    marks: &mut [u8],
+    image: &Image,
+    marks: &mut Marks,
     out: &mut [u8],
     at: usize,
     depth: u16,

@@ -2,11 +2,13 @@
 
 #![tactic(auto)]
 
-ghost use Rattle.std.specs.Prelude.{◌%◌, ◌^◌, ◌<◌, ◌≡◌, length};
-ghost use Rattle.text_marks.specs.Marks.{mark_bytes, marked_in, with_mark};
+ghost use Rattle.std.specs.Prelude.{◌%◌, ◌^◌, ◌<◌, ◌≡◌};
+ghost use Rattle.text_marks.specs.Marks.{marked_in, with_mark};
 
 // Bytes of the marks.
 pub const MARKS: usize = 32;
+
+pub type Marks = [u8; MARKS];
 
 // The place's bit, in the byte that has it.
 fn mask(place: usize) -> u8
@@ -16,16 +18,16 @@ fn mask(place: usize) -> u8
 }
 
 #[tactic(auto, using(crate::proofs::Masks::mask_tells), unfolding(crate::specs::Marks::marked_in))]
-pub fn is_marked(marks: &[u8], place: usize) -> bool
-    requires { (length marks.now ≡ mark_bytes) × (place < 256) }
+pub fn is_marked(marks: &Marks, place: usize) -> bool
+    requires { place < 256 }
     ensures { result ≡ marked_in marks.now place }
 {
     marks[place / 8] & mask(place) != 0
 }
 
 #[tactic(auto, using(crate::proofs::Masks::mark_set))]
-pub fn mark(marks: &mut [u8], place: usize)
-    requires { (length marks.old ≡ mark_bytes) × (place < 256) }
+pub fn mark(marks: &mut Marks, place: usize)
+    requires { place < 256 }
     ensures { marked_in marks.new ≡ with_mark place (marked_in marks.old) }
 {
     marks[place / 8] |= mask(place);

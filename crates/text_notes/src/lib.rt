@@ -11,6 +11,7 @@ ghost use Rattle.saved_blocks.specs.Blocks.{has_entry};
 ghost use Rattle.text_loans.specs.Walk.{Ordered, ticket_in};
 ghost use Rattle.text_notes.specs.Notes.{Noted};
 
+use image::Image;
 use image_places::PROGRAM;
 use std::array;
 
@@ -18,7 +19,7 @@ use std::array;
 const NO_PLACE: u16 = 256;
 
 // Notes each entry's place at the place of the grant that has its name.
-pub fn note_entries(image: &[u8], notes: &mut [u16])
+pub fn note_entries(image: &Image, notes: &mut [u16; 256])
     requires { Ordered image.now × (notes.old ≡ replicate 256 256) }
     ensures { Noted image.now notes.new }
 {
@@ -32,7 +33,7 @@ pub fn note_entries(image: &[u8], notes: &mut [u16])
 }
 
 // The number of the grant at a place, if it has an entry, or 0.
-fn noted_number(image: &[u8], notes: &[u16], place: usize) -> u16
+fn noted_number(image: &Image, notes: &[u16; 256], place: usize) -> u16
     requires { Ordered image.now × (Noted image.now notes.now × (place < 256)) }
     ensures { result ≡ number_if (has_entry (decode image.now)) (ticket_in image.now place) }
 {
@@ -44,7 +45,7 @@ fn noted_number(image: &[u8], notes: &[u16], place: usize) -> u16
 }
 
 // The numbers of a program's grants that have an entry, each in its place.
-pub fn entry_numbers(image: &[u8], notes: &[u16], program: usize) -> [u16; 8]
+pub fn entry_numbers(image: &Image, notes: &[u16; 256], program: usize) -> [u16; 8]
     requires { Ordered image.now × (Noted image.now notes.now × (program < 32)) }
     ensures { result ≡ numbers_in (has_entry (decode image.now)) (tickets_in image.now) program }
 {

@@ -12,15 +12,15 @@ ghost use Rattle.report.specs.Report.{report};
 ghost use Rattle.lending.specs.Report.{report_buffers, ReportsLent};
 ghost use Rattle.text_loans.specs.Walk.{Ordered};
 
-use image::IMAGE;
+use image::Image;
 use machine::Refusal;
-use text_marks::MARKS;
+use text_marks::Marks;
 
 // Bytes that every report has room in.
 pub const ROOM: usize = 6196;
 
 // The whole report goes to the front of the output, if it has room there. Its length counts in any case.
-fn put_report(image: &[u8], marks: &mut [u8], out: &mut [u8]) -> usize
+fn put_report(image: &Image, marks: &mut Marks, out: &mut [u8]) -> usize
     requires { Ordered image.now × (marks.old ≡ replicate mark_bytes 0) }
     ensures { Appends (report (decode image.now)) out.old out.new 0 result }
 {
@@ -31,7 +31,7 @@ fn put_report(image: &[u8], marks: &mut [u8], out: &mut [u8]) -> usize
 }
 
 // The same, and the marks are zeros again.
-fn put_and_clear(image: &[u8], marks: &mut [u8], out: &mut [u8]) -> usize
+fn put_and_clear(image: &Image, marks: &mut Marks, out: &mut [u8]) -> usize
     requires { Ordered image.now × (marks.old ≡ replicate mark_bytes 0) }
     ensures appends { Appends (report (decode image.now)) out.old out.new 0 result }
     ensures marks_after { marks.new ≡ replicate mark_bytes 0 }
@@ -42,7 +42,7 @@ fn put_and_clear(image: &[u8], marks: &mut [u8], out: &mut [u8]) -> usize
 }
 
 // Does the report fit into so many bytes? Where that is not known beforehand it is run once to no output, for its length.
-fn fits(image: &[u8], marks: &mut [u8], room: usize) -> bool
+fn fits(image: &Image, marks: &mut Marks, room: usize) -> bool
     requires { Ordered image.now × (marks.old ≡ replicate mark_bytes 0) }
     ensures value { result ≡ leb (length (report (decode image.now))) room }
     ensures marks_after { marks.new ≡ replicate mark_bytes 0 }
@@ -56,17 +56,17 @@ pub fn report_lent(tables: &[u8], scratch: &mut [u8], output: &mut [u8]) -> Resu
     ensures { ReportsLent (report_buffers tables.now scratch.old output.old) (said result) scratch.new output.new (length_said result) }
 {
     scratch.fill(0);
-    if tables.len() != IMAGE {
+    let Some(image) = tables.as_array() else {
         return Err(Refusal::Length);
-    }
-    if !order::image_in_order(tables) {
+    };
+    if !order::image_in_order(image) {
         return Err(Refusal::NotInOrder);
     }
-    if scratch.len() != MARKS {
+    let Some(marks) = scratch.as_mut_array() else {
         return Err(Refusal::Scratch);
-    }
-    if !fits(tables, scratch, output.len()) {
+    };
+    if !fits(image, marks, output.len()) {
         return Err(Refusal::TooShort);
     }
-    Ok(put_and_clear(tables, scratch, output))
+    Ok(put_and_clear(image, marks, output))
 }

@@ -10,14 +10,14 @@ ghost use Rattle.saved.specs.Save.{saved};
 ghost use Rattle.lending.specs.Saved.{save_buffers, SavesLent};
 ghost use Rattle.text_loans.specs.Walk.{Ordered};
 
-use image::IMAGE;
+use image::Image;
 use machine::Refusal;
 
 // Bytes that every saved text has room in.
 pub const ROOM: usize = 18309;
 
 // The whole text goes to the front of the output, if it has room there. Its length counts in any case.
-fn put_saved(image: &[u8], out: &mut [u8]) -> usize
+fn put_saved(image: &Image, out: &mut [u8]) -> usize
     requires { Ordered image.now }
     ensures { Appends (saved (decode image.now)) out.old out.new 0 result }
 {
@@ -27,7 +27,7 @@ fn put_saved(image: &[u8], out: &mut [u8]) -> usize
 }
 
 // Does the text fit into so many bytes? Where that is not known beforehand it is run once to no output, for its length.
-fn fits(image: &[u8], room: usize) -> bool
+fn fits(image: &Image, room: usize) -> bool
     requires { Ordered image.now }
     ensures { result ≡ leb (length (saved (decode image.now))) room }
 {
@@ -39,14 +39,14 @@ fn fits(image: &[u8], room: usize) -> bool
 pub fn save_lent(tables: &[u8], output: &mut [u8]) -> Result<usize, Refusal>
     ensures { SavesLent (save_buffers tables.now output.old) (said result) output.new (length_said result) }
 {
-    if tables.len() != IMAGE {
+    let Some(image) = tables.as_array() else {
         return Err(Refusal::Length);
-    }
-    if !order::image_in_order(tables) {
+    };
+    if !order::image_in_order(image) {
         return Err(Refusal::NotInOrder);
     }
-    if !fits(tables, output.len()) {
+    if !fits(image, output.len()) {
         return Err(Refusal::TooShort);
     }
-    Ok(put_saved(tables, output))
+    Ok(put_saved(image, output))
 }

@@ -1,22 +1,37 @@
 -- The trace over lent buffers: refused, each as the definition says, or, past the tests of tables and store, written whole.
 use Prim.Native.Nat.{ℕ}
 use native.Mathlib.Omega.{arith}
-use mathlib.Core.Path.{◌≡◌, ◌∙◌}
+use mathlib.Core.Path.{◌≡◌, ap, subst, ◌∙◌}
 use mathlib.Core.Bool.{true, false}
 use mathlib.Core.List.{List}
 use lib.Dec.{leb, eqb}
 use lib.ListN.{length}
 use borrow.Author.Tests.{eq-eqb, ne_eqb}
-use Rattle.lists.proofs.Tests.{and_false}
+use Rattle.std.specs.Array.{IsWholeChunk}
+use Rattle.lists.proofs.Tests.{and_l, and_r, and_false}
 use Rattle.machine.specs.Refusal.{◌when◌else◌}
 use Rattle.image.specs.Layout.{image_size}
-use Rattle.image.specs.Image.{encode}
+use Rattle.image.specs.Image.{encode, is_image}
 use Rattle.lending.specs.Batch.{tables_ok}
-use Rattle.lending.specs.Trace.{TraceBuffers, TraceLeft, trace_of, state_after, trace_refusal, trace_lent, TracesLent}
+use Rattle.lending.specs.Trace.{TraceBuffers, TraceLeft, trace_of, state_after, trace_refusal, trace_lent, trace_buffers, TracesLent}
 use Rattle.text.specs.Writing.{written}
 use Rattle.text.specs.Appending.{Appends}
 use Rattle.text.proofs.Appending.{measured, write_tested}
-use Rattle.text_trace.specs.Contract.{LeavesDock}
+use Rattle.text_trace.specs.Contract.{Servable, LeavesDock}
+
+-- tables and store as the arrays that are made of them
+pub of_arrays : {tables store image sheets input output : List ℕ} → image ≡ tables → sheets ≡ store
+    → {n : ℕ} {tables' store' output' : List ℕ} {size : ℕ} → TracesLent (trace_buffers image sheets input output) n tables' store' output' size
+    → TracesLent (trace_buffers tables store input output) n tables' store' output' size
+of_arrays {input = input} {output = output} p q {n} {tables'} {store'} {output'} {size} =
+    subst (λ (b : TraceBuffers). TracesLent b n tables' store' output' size) (λ i. trace_buffers (p i) (q i) input output)
+
+pub array_long : {bytes array : List ℕ} {n : ℕ} → IsWholeChunk bytes array n → length array ≡ n
+array_long w = ap length w.same ∙ w.long
+
+pub ready : {image sheets bytes : List ℕ} → tables_ok image ≡ true → IsWholeChunk bytes sheets 16384 → Servable image sheets
+unfolding tables_ok
+ready {image} good w = record { is = and_l (is_image image) _ good; order = and_r (is_image image) _ good; store = array_long w }
 
 module _ (b : TraceBuffers) where
   -- ---- refused

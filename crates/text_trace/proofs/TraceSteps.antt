@@ -96,7 +96,7 @@ module _ (s₀ : State) (input : List ℕ) (start : ℕ) (before : List ℕ) (at
         omega (arith, g.bound, ap length answers_here ∙ length-append (answer_to (done + 1) here line_here) later)
 
     pub next : (image' bytes' out' : List ℕ) (total' : ℕ) → Appends (answer_to (done + 1) here line_here) out out' total total'
-        → LeavesDock (left_by_line here line_here) image' bytes' → length bytes' ≡ length bytes
+        → LeavesDock (left_by_line here line_here) image' bytes' → length bytes' ≡ 16384
         → Going s₀ input start before at image' bytes' out' (from + k + 1) (done + 1) total'
     next image' bytes' out' total' put h long =
         let text = answer_to (done + 1) here line_here in
@@ -112,7 +112,7 @@ module _ (s₀ : State) (input : List ℕ) (start : ℕ) (before : List ℕ) (at
         record {
           inside = omega (arith, line_inside);
           counted = omega (arith, g.counted);
-          ready = still_ready image bytes line_here image' bytes' g.ready h (long ∙ g.ready.store);
+          ready = still_ready image bytes line_here image' bytes' g.ready h long;
           encoded = h.tables ∙ ap encode (sym h.decoded);
           kept = put.kept ∙ g.kept;
           bound = omega (arith, g.bound, put.total, whole_long);

@@ -13,10 +13,10 @@ ghost use Rattle.trace_texts.specs.Trace as spec;
 ghost use Rattle.lending.specs.Trace.{dock_of, trace_buffers, TracesLent};
 ghost use Rattle.text_trace.specs.Contract.{asked_in, Servable, LinesFrom, LeavesDock};
 
-use image::IMAGE;
+use image::{IMAGE, Image};
 use machine::{Answer, Refusal, Request};
 use op_form::REQUEST;
-use op_sheets::{SHEET, STORE};
+use op_sheets::{SHEET, STORE, Store};
 use text::LINE_END;
 
 // The longest input, in bytes.
@@ -98,8 +98,8 @@ fn append_other(out: &mut [u8], at: usize, number: u16) -> usize
 
 // One line's whole work: it is read, its request served, the answer appended.
 fn serve_line(
-    tables: &mut [u8],
-    store: &mut [u8],
+    tables: &mut Image,
+    store: &mut Store,
     line: &[u8],
     number: u16,
     out: &mut [u8],
@@ -120,8 +120,8 @@ fn serve_line(
 
 // The lines from `start` on, one after the other.
 pub fn serve_lines(
-    tables: &mut [u8],
-    store: &mut [u8],
+    tables: &mut Image,
+    store: &mut Store,
     input: &[u8],
     start: usize,
     out: &mut [u8],
@@ -146,7 +146,7 @@ pub fn serve_lines(
 // ---- the whole
 
 // The whole trace goes to the front of the output, if it has room there. Its length counts in any case.
-fn put_trace(tables: &mut [u8], store: &mut [u8], input: &[u8], out: &mut [u8]) -> usize
+fn put_trace(tables: &mut Image, store: &mut Store, input: &[u8], out: &mut [u8]) -> usize
     requires { Servable tables.old store.old }
     ensures appends { Appends (spec.trace_from (dock_of tables.old store.old) input.now) out.old out.new 0 result }
     ensures leaves_dock { LeavesDock (spec.after_trace (dock_of tables.old store.old) input.now) tables.new store.new }
@@ -167,17 +167,15 @@ fn put_trace(tables: &mut [u8], store: &mut [u8], input: &[u8], out: &mut [u8]) 
 // Does the trace fit into so many bytes? Where that is not known beforehand it is run once on a copy of the dock, to no output, for its
 // length.
 #[tactic(auto, using(image::proofs::RoundTrip::image_whole, trace_texts::proofs::AnswersLaws::trace_short_from))]
-fn fits(tables: &[u8], store: &[u8], input: &[u8], room: usize) -> bool
+fn fits(tables: &Image, store: &Store, input: &[u8], room: usize) -> bool
     requires { Servable tables.now store.now }
     ensures { result ≡ leb (length (spec.trace_from (dock_of tables.now store.now) input.now)) room }
 {
     if ROOM <= room {
         return true;
     }
-    let mut image = [0u8; IMAGE];
-    let mut sheets = [0u8; STORE];
-    image.copy_from_slice(tables);
-    sheets.copy_from_slice(store);
+    let mut image = *tables;
+    let mut sheets = *store;
     let mut nothing = [0u8; 1];
     let total = put_trace(&mut image, &mut sheets, input, &mut nothing[..0]);
     total <= room
@@ -205,16 +203,19 @@ pub fn trace_lent(
 ) -> Result<usize, Refusal>
     ensures { TracesLent (trace_buffers tables.old store.old input.now output.old) (said result) tables.new store.new output.new (length_said result) }
 {
-    if tables.len() != IMAGE || store.len() != STORE {
+    let Some(image) = tables.as_mut_array() else {
         return Err(Refusal::Length);
-    }
-    if !order::image_in_order(tables) {
+    };
+    let Some(sheets) = store.as_mut_array() else {
+        return Err(Refusal::Length);
+    };
+    if !order::image_in_order(image) {
         return Err(Refusal::NotInOrder);
     }
-    if !fits(tables, store, input, output.len()) {
+    if !fits(image, sheets, input, output.len()) {
         return Err(Refusal::TooShort);
     }
-    Ok(put_trace(tables, store, input, output))
+    Ok(put_trace(image, sheets, input, output))
 }
 
 // An output that every trace fits into.

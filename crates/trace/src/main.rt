@@ -3,11 +3,11 @@
 #![tactic(auto)]
 
 ghost use Rattle.std.specs.Prelude.{◌≤◌, ◌≡◌, length, take};
-ghost use Rattle.trace_texts.specs.Trace.{trace_room, trace};
+ghost use Rattle.trace_texts.specs.Trace.{trace};
 
 use std::io::Read;
 use std::process::ExitCode;
-use text_trace::LONGEST;
+use text_trace::{LONGEST, ROOM};
 
 // Reads until the buffer is full or the input ends; a read that fails ends it too. Answers how many bytes were read.
 // No method of `Read` does this without a heap: `read_exact` doesn't say how many bytes there were.
@@ -27,8 +27,7 @@ fn read_full(input: &mut impl Read, buffer: &mut [u8]) -> usize
 
 // The trace in a buffer that every trace fits into: it is never refused.
 #[tactic(auto, using(text_trace::proofs::WholeTrace::whole_in_buffer))]
-fn whole_trace(input: &[u8], out: &mut [u8]) -> usize
-    requires { length out.old ≡ trace_room }
+fn whole_trace(input: &[u8], out: &mut [u8; ROOM]) -> usize
     ensures upper_bound { result ≤ length out.new }
     ensures out_after { take result out.new ≡ trace input.now }
 {

@@ -2,7 +2,7 @@
 use mathlib.Core.Path.{◌≡◌, sym, ap, ◌∙◌}
 use mathlib.Core.Bool.{true, not}
 use Rattle.lending.specs.Batch.{buffers_fit, buffers_of}
-use Rattle.batch.proofs.Refusals.{whole, image_whole, leaves_13, leaves_14, leaves_0, tables_bad, tables_ok_lem, is_image_lem, is_in_order}
+use Rattle.batch.proofs.Refusals.{whole, leaves_13, leaves_14, leaves_0, tables_bad, tables_ok_lem, is_image_lem, is_in_order}
 use Rattle.batch.proofs.serve.Goals as goal
 
 pub returns-then-not-lengths_ok : goal.returns-then-not-lengths_ok
@@ -11,27 +11,20 @@ returns-then-not-lengths_ok c =
     let b = buffers_of a.tables.now a.store.now a.sheets.now a.requests.now a.answers.now in
     leaves_13 b (sym c.lengths_ok.ensures ∙ c.if-not-lengths_ok.true)
 
-pub image_in_order-requires : goal.image_in_order-requires
-image_in_order-requires c =
+pub returns-then-not-in_order : goal.returns-then-not-in_order
+returns-then-not-in_order c =
     let a = c.args in
     let b = buffers_of a.tables.now a.store.now a.sheets.now a.requests.now a.answers.now in
     let fits : buffers_fit b ≡ true = sym c.lengths_ok.ensures ∙ c.if-not-lengths_ok.false in
-    image_whole b fits
-
-pub returns-then-not-image_in_order : goal.returns-then-not-image_in_order
-returns-then-not-image_in_order c =
-    let a = c.args in
-    let b = buffers_of a.tables.now a.store.now a.sheets.now a.requests.now a.answers.now in
-    let fits : buffers_fit b ≡ true = sym c.lengths_ok.ensures ∙ c.if-not-lengths_ok.false in
-    leaves_14 b fits (tables_bad a.tables.now c.image_in_order.ensures (ap not c.if-not-image_in_order.true))
+    leaves_14 b fits (tables_bad a.tables.now c.in_order.ensures (ap not c.if-not-in_order.true))
 
 pub serve_all-requires : goal.serve_all-requires
 serve_all-requires c =
     let a = c.args in
     let b = buffers_of a.tables.now a.store.now a.sheets.now a.requests.now a.answers.now in
     let fits : buffers_fit b ≡ true = sym c.lengths_ok.ensures ∙ c.if-not-lengths_ok.false in (
-      is_image_lem a.tables.now c.image_in_order.ensures (ap not c.if-not-image_in_order.false),
-      (whole b fits, is_in_order a.tables.now c.image_in_order.ensures (ap not c.if-not-image_in_order.false)),
+      is_image_lem a.tables.now c.in_order.ensures (ap not c.if-not-in_order.false),
+      (whole b fits, is_in_order a.tables.now c.in_order.ensures (ap not c.if-not-in_order.false)),
     )
 
 pub returns : goal.returns
@@ -39,4 +32,4 @@ returns c =
     let a = c.args in
     let b = buffers_of a.tables.now a.store.now a.sheets.now a.requests.now a.answers.now in
     let fits : buffers_fit b ≡ true = sym c.lengths_ok.ensures ∙ c.if-not-lengths_ok.false in
-    leaves_0 b fits (tables_ok_lem a.tables.now c.image_in_order.ensures (ap not c.if-not-image_in_order.false)) _ _ _ _ c.serve_all.ensures
+    leaves_0 b fits (tables_ok_lem a.tables.now c.in_order.ensures (ap not c.if-not-in_order.false)) _ _ _ _ c.serve_all.ensures

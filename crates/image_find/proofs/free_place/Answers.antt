@@ -13,7 +13,7 @@ returns c =
     let s = c.first_place.ensures in
     let image = c.args.image.now in
     let program = c.args.program in
-    let low : program < 32 = c.requires.1 in
+    let low : program < 32 = c.requires in
     let long = eight image (program / 8) (program % 8) (omega arith) (omega arith) in
     first_is is_free free (tickets_of (decode image) (program / 8) (program % 8)) c.first_place.result (omega (arith, long))
     (λ j h.

@@ -13,9 +13,9 @@ pub loop-i-preserved : goal.loop-i-preserved
 loop-i-preserved c =
     let a = c.args in
     let l = c.loop-i in
-    let k = c.ticket_at-k.ensures ∙ (flattened a.image.now).same (64 * a.pad + l.i) (omega (arith, c.requires.1.0, c.requires.1.1.1, c.loop-i-test.true)) in
+    let k = c.ticket_at-k.ensures ∙ (flattened a.image.now).same (64 * a.pad + l.i) (omega (arith, c.requires, c.told-to, c.loop-i-test.true)) in
     one_more 0 64 (λ j. up_of a.numbers.now (j / 8) (on_pad (decode a.image.now) a.pad j)) l.i l.to _ l.invariant
-    (omega (arith, c.requires.1.1.1, c.loop-i-test.true))
+    (omega (arith, c.told-to, c.loop-i-test.true))
     (c.up_of.ensures ∙ ap (up_of a.numbers.now (l.i / 8)) k)
 
 pub returns : goal.returns
@@ -23,4 +23,4 @@ unfolding ups_of
 returns c =
     let a = c.args in
     tabulated 0 64 c.loop-i.i (λ j. up_of a.numbers.now (j / 8) (on_pad (decode a.image.now) a.pad j)) c.loop-i.to
-    (omega (arith, c.requires.1.1.1, c.loop-i-test.false)) c.loop-i.invariant
+    (omega (arith, c.told-to, c.loop-i-test.false)) c.loop-i.invariant

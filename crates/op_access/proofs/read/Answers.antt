@@ -12,26 +12,24 @@ use Rattle.op_access.proofs.read.Goals as goal
 
 pub refuse-requires : goal.refuse-requires
 refuse-requires c =
-    let asks = c.requires.1.1 in
+    let asks = c.requires.1 in
     let found = c.asked-k.ensures in
     (c.requires.0, may_be_refused 1 (decode c.args.image.now) c.args.r asks.1.early asks.0 (c.in-Err.ensures found) _ found)
 
 pub returns-in-Err : goal.returns-in-Err
 returns-in-Err c =
-    let asks = c.requires.1.1 in
+    let asks = c.requires.1 in
     let found = c.asked-k.ensures in
     let t = decode c.args.image.now in
     let r = c.args.r in
     refused 1 t r asks.1.early asks.0 (c.in-Err.ensures found) _ found reading (op_read r.op asks.1.number) (own_read t r) c.refuse.ensures
 
 pub read_sheet-requires : goal.read_sheet-requires
-read_sheet-requires c =
-    let low = sheet_in_store 1 (decode c.args.image.now) c.args.r c.requires.1.1.1.early (c.in-Ok.ensures c.asked-k.ensures) in
-    (c.requires.1.0.0, (low, c.requires.1.0.1))
+read_sheet-requires c = let low = sheet_in_store 1 (decode c.args.image.now) c.args.r c.requires.1.1.early (c.in-Ok.ensures c.asked-k.ensures) in low
 
 pub returns-in-Ok : goal.returns-in-Ok
 returns-in-Ok c =
-    let asks = c.requires.1.1.1 in
+    let asks = c.requires.1.1 in
     let t = decode c.args.image.now in
     let r = c.args.r in
     let store = c.args.store.now in

@@ -12,26 +12,24 @@ use Rattle.op_access.proofs.write.Goals as goal
 
 pub refuse-requires : goal.refuse-requires
 refuse-requires c =
-    let asks = c.requires.1.1 in
+    let asks = c.requires.1 in
     let found = c.asked-k.ensures in
     (c.requires.0, may_be_refused 2 (decode c.args.image.now) c.args.r asks.1.early asks.0 (c.in-Err.ensures found) _ found)
 
 pub returns-in-Err : goal.returns-in-Err
 returns-in-Err c =
-    let asks = c.requires.1.1 in
+    let asks = c.requires.1 in
     let found = c.asked-k.ensures in
     let t = decode c.args.image.now in
     let r = c.args.r in
     refused 2 t r asks.1.early asks.0 (c.in-Err.ensures found) _ found writing (op_write r.op asks.1.number) (own_write t r) c.refuse.ensures
 
 pub write_sheet-requires : goal.write_sheet-requires
-write_sheet-requires c =
-    let low = sheet_in_store 2 (decode c.args.image.now) c.args.r c.requires.1.1.1.early (c.in-Ok.ensures c.asked-k.ensures) in
-    (c.requires.1.0.0, (low, c.requires.1.0.1))
+write_sheet-requires c = let low = sheet_in_store 2 (decode c.args.image.now) c.args.r c.requires.1.1.early (c.in-Ok.ensures c.asked-k.ensures) in low
 
 pub returns-in-Ok : goal.returns-in-Ok
 returns-in-Ok c =
-    let asks = c.requires.1.1.1 in
+    let asks = c.requires.1.1 in
     let t = decode c.args.image.now in
     let r = c.args.r in
     let store = c.args.store.now in

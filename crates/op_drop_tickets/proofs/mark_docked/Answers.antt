@@ -16,6 +16,6 @@ loop-i-preserved c =
     let a = c.args in
     let l = c.loop-i in
     let t = decode a.image.now in
-    let k = c.ticket_at-k.ensures ∙ (flattened a.image.now).same (64 * a.d.pad + l.i) (omega (arith, c.requires.1, c.loop-i-test.true)) in
+    let k = c.ticket_at-k.ensures ∙ (flattened a.image.now).same (64 * a.d.pad + l.i) (omega (arith, c.requires, c.loop-i-test.true)) in
     one_more false 64 (docked_on t a.d) l.i l.marks _ l.invariant c.loop-i-test.true
     (c.docked_with.ensures ∙ ap (docked_with t a.d (name_of a.d.pad (l.i / 8) 0)) k)

@@ -10,23 +10,20 @@ use Rattle.op_give_back.proofs.give_back.Goals as goal
 pub returns-in-Err : goal.returns-in-Err
 returns-in-Err c =
     λ sheet. stays c.requires.0 c.refused.ensures
-    (refused (decode c.args.image.now) c.args.store.now sheet c.args.r c.requires.1.1.1 c.in-Err.refusal c.in-Err.ensures.result)
+    (refused (decode c.args.image.now) c.args.store.now sheet c.args.r c.requires.1.1 c.in-Err.refusal c.in-Err.ensures.result)
 
 pub clear_sheets-requires : goal.clear_sheets-requires
-clear_sheets-requires c =
-    let d = c.in-Ok.ensures in
-    let span = span_of_asked (decode c.args.image.now) c.args.r d.result c.requires.1.1.0 d.ticket in
-    (c.requires.1.0, omega (arith, span))
+clear_sheets-requires c = let d = c.in-Ok.ensures in let span = span_of_asked (decode c.args.image.now) c.args.r d.result c.requires.1.0 d.ticket in omega (arith, span)
 
 pub drop_head-requires : goal.drop_head-requires
 drop_head-requires c =
-    let ready = c.requires.1.1.0 in
+    let ready = c.requires.1.0 in
     let head = head_of_asked (decode c.args.image.now) c.args.r c.in-Ok.ensures.result c.asked_name-own.ensures in
     (c.requires.0, (ready.linked, (ready.heads, head)))
 
 pub drop_below-requires : goal.drop_below-requires
 drop_below-requires c =
-    (c.drop_head.ensures.is, entries_kept_lem _ (decode c.args.image.now) _ c.drop_head.ensures.tables c.requires.1.1.0.entries)
+    (c.drop_head.ensures.is, entries_kept_lem _ (decode c.args.image.now) _ c.drop_head.ensures.tables c.requires.1.0.entries)
 
 pub returns : goal.returns
 returns c =
@@ -36,4 +33,4 @@ returns c =
     let store = c.args.store.now in
     let cleared = c.clear_sheets.ensures ∙ (λ i. clear_sheets (c.from.ensures i) (c.from-2.ensures i) store) ∙ ap (λ (k : Ticket). clear_sheets k.first k.count store) (sym d.ticket) in
     λ sheet. leaves c.drop_below.ensures c.accepted.ensures
-    (given_back t store sheet r c.requires.1.1.1 d.result (gave_back t r _ c.asked_name-own.ensures _ c.drop_head.ensures.tables) cleared)
+    (given_back t store sheet r c.requires.1.1 d.result (gave_back t r _ c.asked_name-own.ensures _ c.drop_head.ensures.tables) cleared)

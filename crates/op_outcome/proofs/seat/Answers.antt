@@ -14,8 +14,8 @@ returns c =
     let a = c.args.pad in
     let b = c.args.program in
     let at = c.program_at-at.ensures in
-    let long = (decoded_sized image).tickets a b (omega (arith, c.requires.1.pad)) (omega (arith, c.requires.1.program)) in
+    let long = (decoded_sized image).tickets a b (omega (arith, c.requires.pad)) (omega (arith, c.requires.program)) in
     record {
-      full = is_full (decode image) a b c.requires.1.program _ at long _ c.free_place.ensures;
-      last = c.last_at.ensures ∙ ap (λ (m : ℕ). get_or (lasts_in image) m 0) at ∙ (flattened image).last a b (omega (arith, c.requires.1.pad)) (omega (arith, c.requires.1.program));
+      full = is_full (decode image) a b c.requires.program _ at long _ c.free_place.ensures;
+      last = c.last_at.ensures ∙ ap (λ (m : ℕ). get_or (lasts_in image) m 0) at ∙ (flattened image).last a b (omega (arith, c.requires.pad)) (omega (arith, c.requires.program));
     }

@@ -31,7 +31,7 @@ loop-s-preserved c = λ ends e.
     elim c.if-end-ne0.branch [
       | then-end-ne0 w ↦
           rw (w.found-is, w.start-is)
-          (sought_more so_far c.requires.1 (omega arith) (λ none. w.if-end-ne0.true (here ∙ none)) w.better-found.ensures
+          (sought_more so_far c.requires.0 (omega arith) (λ none. w.if-end-ne0.true (here ∙ none)) w.better-found.ensures
           (w.max-start.ensures ∙ ap (max c.loop-s.start) here))
       | else-end-ne0 w ↦ rw (w.found-is, w.start-is) (sought_on so_far (omega arith) (sym here ∙ w.if-end-ne0.false))
     ]
@@ -44,4 +44,4 @@ returns c =
     let all = simp length-take at c.loop-s-test.false in
     sought_end (c.loop-s.invariant c.note_ends-bound.new.ends refl)
     (omega (arith, simp length-take at c.loop-s.auto.s-end))
-    (λ k b. none_behind_bound es noted k (omega (arith, all, most))) c.requires.1 c.better-best.ensures es noted.ends
+    (λ k b. none_behind_bound es noted k (omega (arith, all, most))) c.requires.0 c.better-best.ensures es noted.ends

@@ -17,50 +17,37 @@ use Rattle.order.proofs.image_in_order.Goals as goal
 pub returns-in_default : goal.returns-in_default
 returns-in_default c =
     let image = c.args.image.now in
-    programs_broken image c.requires (decode image) (sym (c.in_default.ensures.0 (decode image) (decoded_sized image) (flattened image)))
+    programs_broken image c.told-image (decode image) (sym (c.in_default.ensures.0 (decode image) (decoded_sized image) (flattened image)))
 
 pub chains_ok-requires : goal.chains_ok-requires
-chains_ok-requires c =
-    let x = c.in-Some.ensures.1 in
-    (c.requires, (omega arith, listed_front _ _ _ _ _ _ x.children_listed (omega (arith, x.children_listed.most))))
+chains_ok-requires c = let x = c.in-Some.ensures.1 in listed_front _ _ _ _ _ _ x.children_listed (omega (arith, x.children_listed.most))
 
 pub returns-then-not-chains_ok : goal.returns-then-not-chains_ok
 returns-then-not-chains_ok c =
     let image = c.args.image.now in
     let p = sym (c.in-Some.ensures.0 (decode image) (decoded_sized image) (flattened image)) in
-    let ix = image_numbered image c.requires p _ c.in-Some.ensures.1.written in
-    chains_broken image c.requires (decode image) (sym (c.chains_ok.ensures (decode image) (flattened image) ix) ∙ c.if-not-chains_ok.true)
+    let ix = image_numbered image c.told-image p _ c.in-Some.ensures.1.written in
+    chains_broken image c.told-image (decode image) (sym (c.chains_ok.ensures (decode image) (flattened image) ix) ∙ c.if-not-chains_ok.true)
 
 pub entries_ok-requires : goal.entries_ok-requires
-entries_ok-requires c =
-    let x = c.in-Some.ensures.1 in
-    (c.requires, (omega arith, (listed_front _ _ _ _ _ _ x.taken_listed (omega (arith, x.taken_listed.most)), (refl, length-replicate {A = ℕ} 256 0))))
+entries_ok-requires c = let x = c.in-Some.ensures.1 in (listed_front _ _ _ _ _ _ x.taken_listed (omega (arith, x.taken_listed.most)), refl)
 
 pub returns-in_default-entries_ok : goal.returns-in_default-entries_ok
 returns-in_default-entries_ok c =
     let image = c.args.image.now in
     let p = sym (c.in-Some.ensures.0 (decode image) (decoded_sized image) (flattened image)) in
-    let ix = image_numbered image c.requires p _ c.in-Some.ensures.1.written in
-    let e = c.in_default-entries_ok.ensures.0 (decode image) (flattened image) (entries_decoded image) ix (rule_2 (decode image) (rules image c.requires (decode image) p)) in
-    entries_broken image c.requires (decode image) (sym e.same)
+    let ix = image_numbered image c.told-image p _ c.in-Some.ensures.1.written in
+    let e = c.in_default-entries_ok.ensures.0 (decode image) (flattened image) (entries_decoded image) ix (rule_2 (decode image) (rules image c.told-image (decode image) p)) in
+    entries_broken image c.told-image (decode image) (sym e.same)
 
 pub recalls_ok-requires : goal.recalls_ok-requires
-recalls_ok-requires c =
-    let image = c.args.image.now in
-    let p = sym (c.in-Some.ensures.0 (decode image) (decoded_sized image) (flattened image)) in
-    let ix = image_numbered image c.requires p _ c.in-Some.ensures.1.written in
-    let e = c.in-Some-entries_ok.ensures.0 (decode image) (flattened image) (entries_decoded image) ix (rule_2 (decode image) (rules image c.requires (decode image) p)) in
-    let x = c.in-Some.ensures.1 in
-    let under = listed_front _ _ _ _ _ _ x.children_listed (omega (arith, x.children_listed.most)) in
-    let back = listed_front _ _ _ _ _ _ x.recalls_listed (omega (arith, x.recalls_listed.most)) in
-    let grants = c.in-Some-entries_ok.ensures.1 in
-    (c.requires, (omega arith, ((e.noted refl).long, ((under, back), values_front _ _ _ _ _ _ _ _ grants (omega (arith, grants.most))))))
+recalls_ok-requires c = let image = c.args.image.now in let p = sym (c.in-Some.ensures.0 (decode image) (decoded_sized image) (flattened image)) in let ix = image_numbered image c.told-image p _ c.in-Some.ensures.1.written in let e = c.in-Some-entries_ok.ensures.0 (decode image) (flattened image) (entries_decoded image) ix (rule_2 (decode image) (rules image c.told-image (decode image) p)) in let x = c.in-Some.ensures.1 in let under = listed_front _ _ _ _ _ _ x.children_listed (omega (arith, x.children_listed.most)) in let back = listed_front _ _ _ _ _ _ x.recalls_listed (omega (arith, x.recalls_listed.most)) in let grants = c.in-Some-entries_ok.ensures.1 in ((under, back), values_front _ _ _ _ _ _ _ _ grants (omega (arith, grants.most)))
 
 pub returns : goal.returns
 returns c =
     let image = c.args.image.now in
     let p = sym (c.in-Some.ensures.0 (decode image) (decoded_sized image) (flattened image)) in
-    let ix = image_numbered image c.requires p _ c.in-Some.ensures.1.written in
-    let e = c.in-Some-entries_ok.ensures.0 (decode image) (flattened image) (entries_decoded image) ix (rule_2 (decode image) (rules image c.requires (decode image) p)) in
+    let ix = image_numbered image c.told-image p _ c.in-Some.ensures.1.written in
+    let e = c.in-Some-entries_ok.ensures.0 (decode image) (flattened image) (entries_decoded image) ix (rule_2 (decode image) (rules image c.told-image (decode image) p)) in
     c.recalls_ok.ensures (decode image) (record { flat = flattened image; entries = entries_decoded image; numbered = ix; noted = e.noted refl })
-    ∙ last_rule image c.requires (decode image) p (sym (c.chains_ok.ensures (decode image) (flattened image) ix) ∙ c.if-not-chains_ok.false) (sym e.same)
+    ∙ last_rule image c.told-image (decode image) p (sym (c.chains_ok.ensures (decode image) (flattened image) ix) ∙ c.if-not-chains_ok.false) (sym e.same)

@@ -16,7 +16,7 @@ use Rattle.order_children.proofs.children_ok.Goals as goal
 pub loop-at-init : goal.loop-at-init
 loop-at-init c = (
   (λ j h. absurd (omega (arith, h))),
-  subst (Filled 256 256 _ _ 0) (sym c.requires.1.1.1) (filled_none 256 256 _ _),
+  subst (Filled 256 256 _ _ 0) (sym c.requires.1) (filled_none 256 256 _ _),
 )
 
 pub returns-then-p-ge256 : goal.returns-then-p-ge256
@@ -25,8 +25,8 @@ returns-then-p-ge256 c =
     let ks = tickets_in c.args.image.now in
     let i = c.loop-at.at-index in
     let q = get_or c.args.children.now i 0 in
-    let child = c.requires.1.1.0.passes i (omega arith) in
-    let e = listed_broken free (λ k. is_child k.kind) ks 256 _ _ c.requires.1.1.0 (child_ok ks c.args.numbers.now) (tickets_long c.args.image.now) i (omega arith)
+    let child = c.requires.0.passes i (omega arith) in
+    let e = listed_broken free (λ k. is_child k.kind) ks 256 _ _ c.requires.0 (child_ok ks c.args.numbers.now) (tickets_long c.args.image.now) i (omega arith)
     (no_parent ks c.args.numbers.now q _ c.from-at.ensures _ c.ticket_at-k.ensures child _ c.place_of-p.ensures c.if-p-ge256.true) in
     (e, λ z. no_true z)
 
@@ -36,8 +36,8 @@ returns-then-not-parent_ok c =
     let ks = tickets_in c.args.image.now in
     let i = c.loop-at.at-index in
     let q = get_or c.args.children.now i 0 in
-    let child = c.requires.1.1.0.passes i (omega arith) in
-    let e = listed_broken free (λ k. is_child k.kind) ks 256 _ _ c.requires.1.1.0 (child_ok ks c.args.numbers.now) (tickets_long c.args.image.now) i (omega arith)
+    let child = c.requires.0.passes i (omega arith) in
+    let e = listed_broken free (λ k. is_child k.kind) ks 256 _ _ c.requires.0 (child_ok ks c.args.numbers.now) (tickets_long c.args.image.now) i (omega arith)
     (by_parent ks c.args.numbers.now q _ c.from-at.ensures _ c.ticket_at-k.ensures child _ c.place_of-p.ensures (omega (arith, c.if-p-ge256.false)) _
     c.ticket_at-parent.ensures _ c.name_at.ensures _ c.parent_ok.ensures ∙ c.if-not-parent_ok.true) in
     (e, λ z. no_true z)
@@ -47,13 +47,13 @@ loop-at-preserved c =
     let ks = tickets_in c.args.image.now in
     let i = c.loop-at.at-index in
     let q = get_or c.args.children.now i 0 in
-    let child = c.requires.1.1.0.passes i (omega arith) in
+    let child = c.requires.0.passes i (omega arith) in
     let p = c.place_of-p.ensures in (
       below_more _ i c.loop-at.invariant.0
           (by_parent ks c.args.numbers.now q _ c.from-at.ensures _ c.ticket_at-k.ensures child _ p (omega (arith, c.if-p-ge256.false)) _
           c.ticket_at-parent.ensures _ c.name_at.ensures _ c.parent_ok.ensures ∙ c.if-not-parent_ok.false),
       filled_at 256 256 (λ m. up_of c.args.numbers.now (get_or ks m free)) c.args.children.now i c.loop-at.up c.loop-at.invariant.1
-          (c.requires.1.1.0.low i (omega arith)) _
+          (c.requires.0.low i (omega arith)) _
           (parent_up ks c.args.numbers.now q _ c.from-at.ensures _ c.ticket_at-k.ensures child _ p) _ c.from-at.ensures,
     )
 
@@ -61,7 +61,7 @@ pub returns : goal.returns
 unfolding children_ok
 returns c =
     let ks = tickets_in c.args.image.now in
-    let listing = c.requires.1.1.0 in (
+    let listing = c.requires.0 in (
       sym
           (listed_all_at free (λ k. is_child k.kind) ks 256 _ _ listing (child_ok ks c.args.numbers.now) (tickets_long c.args.image.now)
           (λ j h. c.loop-at.invariant.0 j (omega arith)) (λ q k e. no_child c.args.numbers.now k e ks q)),

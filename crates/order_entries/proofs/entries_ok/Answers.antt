@@ -14,21 +14,15 @@ returns-in_err-listed c =
     (λ t fl e ix s. bad_notes _ t _ _ fl _ e _ ix s _ _ c.note_entries.ensures.0 (ap is_some c.in_err-listed.was), tt)
 
 pub hung_ok-requires : goal.hung_ok-requires
-hung_ok-requires c =
-    let listed = c.in_ok-listed.ensures.1 in (
-      c.requires.0,
-      (c.requires.1.0, ((c.in_ok-listed.ensures.0.noted refl).long, listed_front _ _ _ _ _ _ listed.under (omega (arith, listed.under.most)))),
-    )
+hung_ok-requires c = let listed = c.in_ok-listed.ensures.1 in listed_front _ _ _ _ _ _ listed.under (omega (arith, listed.under.most))
 
 pub roots_apart-requires : goal.roots_apart-requires
-roots_apart-requires c =
-    let listed = c.in_ok-listed.ensures.1 in
-    (c.requires.0, listed_front _ _ _ _ _ _ listed.top (omega (arith, listed.top.most)))
+roots_apart-requires c = let listed = c.in_ok-listed.ensures.1 in listed_front _ _ _ _ _ _ listed.top (omega (arith, listed.top.most))
 
 pub returns-then-taken_ok : goal.returns-then-taken_ok
 returns-then-taken_ok c = (
   λ t fl e ix s. last_part _ t _ _ fl _ e _ ix s _ _ c.in_ok-listed.ensures.0 refl _ c.hung_ok.ensures c.if-hung_ok.true _ c.roots_apart.ensures
-      c.if-roots_apart.true _ (sym c.if-taken_ok.true ∙ c.taken_ok.ensures _ (tickets_long c.args.image.now) c.requires.1.1.0),
+      c.if-roots_apart.true _ (sym c.if-taken_ok.true ∙ c.taken_ok.ensures _ (tickets_long c.args.image.now) c.requires.0),
   c.in_ok-listed.ensures.1.grants,
 )
 
@@ -37,7 +31,7 @@ returns-else-hung_ok c = (
   λ t fl e ix s. elim c.else-hung_ok.branch [
     | else-hung_ok-via-then-hung_ok+then-roots_apart+else-taken_ok w ↦
         last_part _ t _ _ fl _ e _ ix s _ _ c.in_ok-listed.ensures.0 refl _ c.hung_ok.ensures w.if-hung_ok.true _ w.roots_apart.ensures
-        w.if-roots_apart.true _ (sym w.if-taken_ok.false ∙ w.taken_ok.ensures _ (tickets_long c.args.image.now) c.requires.1.1.0)
+        w.if-roots_apart.true _ (sym w.if-taken_ok.false ∙ w.taken_ok.ensures _ (tickets_long c.args.image.now) c.requires.0)
     | else-hung_ok-via-then-hung_ok+else-roots_apart w ↦
         bad_roots _ t _ _ fl _ e _ ix s _ _ c.in_ok-listed.ensures.0 refl _ c.hung_ok.ensures w.if-hung_ok.true _ w.roots_apart.ensures w.if-roots_apart.false
     | else-hung_ok-via-else-hung_ok w ↦

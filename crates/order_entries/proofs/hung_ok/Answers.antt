@@ -8,23 +8,17 @@ use Rattle.order_entries.proofs.hung_ok.Goals as goal
 
 pub returns-then-is_empty : goal.returns-then-is_empty
 returns-then-is_empty c =
-    none_hung _ _ _ (entries_long c.args.image.now) _ c.requires.1.1.1 (eqb-true _ _ (sym c.is_empty.ensures ∙ c.if-is_empty.true))
+    none_hung _ _ _ (entries_long c.args.image.now) _ c.requires (eqb-true _ _ (sym c.is_empty.ensures ∙ c.if-is_empty.true))
 
 pub returns-else-link_entries : goal.returns-else-link_entries
 returns-else-link_entries c =
     c.if-link_entries.false
-    ∙ no_links _ _ _ (entries_long c.args.image.now) _ c.requires.1.1.1 _ _ c.link_entries.ensures c.if-link_entries.false
+    ∙ no_links _ _ _ (entries_long c.args.image.now) _ c.requires _ _ c.link_entries.ensures c.if-link_entries.false
 
 pub chains_end-requires : goal.chains_end-requires
-chains_end-requires c = (
-  omega arith,
-  (
-    c.requires.1.1.1.low,
-    links_listed _ _ _ (entries_long c.args.image.now) _ c.requires.1.1.1 _ _ c.link_entries.ensures c.if-link_entries.true,
-  ),
-)
+chains_end-requires c = (c.requires.low, links_listed _ _ _ (entries_long c.args.image.now) _ c.requires _ _ c.link_entries.ensures c.if-link_entries.true)
 
 pub returns-then-link_entries : goal.returns-then-link_entries
 returns-then-link_entries c =
-    by_chains _ _ _ (entries_long c.args.image.now) _ c.requires.1.1.1 _ _ c.link_entries.ensures c.if-link_entries.true _
+    by_chains _ _ _ (entries_long c.args.image.now) _ c.requires _ _ c.link_entries.ensures c.if-link_entries.true _
     c.chains_end.ensures

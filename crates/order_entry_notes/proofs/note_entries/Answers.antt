@@ -6,7 +6,7 @@ use Rattle.order_entry_notes.proofs.note_entries.Goals as goal
 use Rattle.order_entry_notes.proofs.note_entries.Goals.{then-e+in_ok-p+else-notes-p-lt256, else-e}
 
 pub loop-i-init : goal.loop-i-init
-loop-i-init c = passed_none _ _ _ _ _ _ c.requires.1.1.0 c.requires.1.1.1
+loop-i-init c = passed_none _ _ _ _ _ _ c.requires (c.told-roots, (c.told-hung, c.told-received))
 
 pub returns-then-live_at-gt1 : goal.returns-then-live_at-gt1
 returns-then-live_at-gt1 c = (

@@ -10,7 +10,7 @@ use Rattle.order_programs.proofs.programs_ok.Goals as goal
 use Rattle.order_programs.proofs.programs_ok.Goals.{then-said-ne0+else-not-ticket_ok, else-said-ne0}
 
 pub loop-i-init : goal.loop-i-init
-loop-i-init c = passed_none _ _ _ _ _ c.requires.1.0 c.requires.1.1
+loop-i-init c = passed_none _ _ _ _ _ c.requires (c.told-taken, (c.told-children, c.told-recalls))
 
 pub returns-then-said-gt4 : goal.returns-then-said-gt4
 returns-then-said-gt4 c =

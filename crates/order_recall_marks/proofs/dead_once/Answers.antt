@@ -12,7 +12,7 @@ pub returns-then-contains : goal.returns-then-contains
 returns-then-contains c =
     let keys = c.args.keys.now in
     dead_not keys c.args.recalls.now c.loop-at.at-index c.loop-at.count c.loop-at.dead c.loop-at.invariant _ (ap (λ (p : ℕ). get_or keys p 0) c.from.ensures)
-    c.if-key-gt256.true c.requires.0 c.requires.1 c.loop-at-test.true (sym c.contains.ensures.value ∙ c.if-contains.true)
+    c.if-key-gt256.true c.told-keys c.requires c.loop-at-test.true (sym c.contains.ensures.value ∙ c.if-contains.true)
 
 pub loop-at-preserved : goal.loop-at-preserved
 loop-at-preserved c =
@@ -22,7 +22,7 @@ loop-at-preserved c =
       | then-key-gt256+else-contains w ↦
           rw (w.dead-is, w.count-is)
           (dead_more keys c.args.recalls.now c.loop-at.at-index c.loop-at.count c.loop-at.dead c.loop-at.invariant _ here w.if-key-gt256.true
-          (omega (arith, c.requires.1.most)) (sym w.contains.ensures.value ∙ w.if-contains.false))
+          (omega (arith, c.requires.most)) (sym w.contains.ensures.value ∙ w.if-contains.false))
       | else-key-gt256 w ↦
           rw (w.dead-is, w.count-is)
           (dead_skip keys c.args.recalls.now c.loop-at.at-index c.loop-at.count c.loop-at.dead c.loop-at.invariant _ here w.if-key-gt256.false)
@@ -30,5 +30,5 @@ loop-at-preserved c =
 
 pub returns : goal.returns
 returns c =
-    dead_end c.args.keys.now c.args.recalls.now c.loop-at.at-index c.loop-at.count c.loop-at.dead c.loop-at.invariant c.requires.0 c.requires.1
+    dead_end c.args.keys.now c.args.recalls.now c.loop-at.at-index c.loop-at.count c.loop-at.dead c.loop-at.invariant c.told-keys c.requires
     (omega arith)

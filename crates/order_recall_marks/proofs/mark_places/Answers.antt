@@ -9,7 +9,7 @@ use Rattle.order_recall_marks.proofs.mark_places.Goals as goal
 use Rattle.order_recall_marks.proofs.mark_places.Goals.{then-key-lt256+else-marks-key-ne0, else-key-lt256}
 
 pub loop-at-init : goal.loop-at-init
-loop-at-init c = marks_none c.args.keys.now c.args.recalls.now c.args.marks.now c.requires.1.0
+loop-at-init c = marks_none c.args.keys.now c.args.recalls.now c.args.marks.now c.requires.0
 
 pub loop-at-preserved : goal.loop-at-preserved
 loop-at-preserved c =
@@ -26,4 +26,4 @@ loop-at-preserved c =
 
 pub returns : goal.returns
 returns c =
-    marks_end c.args.keys.now c.args.recalls.now c.loop-at.at-index c.loop-at.marks c.loop-at.invariant c.requires.0 c.requires.1.1 (omega arith)
+    marks_end c.args.keys.now c.args.recalls.now c.loop-at.at-index c.loop-at.marks c.loop-at.invariant c.told-keys c.requires.1 (omega arith)

@@ -9,45 +9,42 @@ use Rattle.order_recalls.proofs.each_holds.Goals.{then-k-own+else-key-gt256+else
 
 pub returns-then-place-ge256 : goal.returns-then-place-ge256
 returns-then-place-ge256 c =
-    let w = pick {image = c.args.image.now} c.requires.1.1.1.0 c.requires.1.1.1.1 c.loop-at-test.true c.from-at.ensures
+    let w = pick {image = c.args.image.now} c.requires.0 c.requires.1 c.loop-at-test.true c.from-at.ensures
     c.ticket_at-k.ensures c.name_at-own.ensures c.place_of-place.ensures in
     λ t x. no_grant x w c.if-place-ge256.true
 
 pub returns-then-not-recall_parent_ok : goal.returns-then-not-recall_parent_ok
 returns-then-not-recall_parent_ok c =
-    let w = pick {image = c.args.image.now} c.requires.1.1.1.0 c.requires.1.1.1.1 c.loop-at-test.true c.from-at.ensures
+    let w = pick {image = c.args.image.now} c.requires.0 c.requires.1 c.loop-at-test.true c.from-at.ensures
     c.ticket_at-k.ensures c.name_at-own.ensures c.place_of-place.ensures in
     λ t x. bad_grant x w (omega (arith, c.if-place-ge256.false)) c.ticket_at-grant.ensures (sym c.recall_parent_ok.ensures ∙ c.if-not-recall_parent_ok.true)
 
 pub returns-then-key-gt256 : goal.returns-then-key-gt256
 returns-then-key-gt256 c =
-    let w = pick {image = c.args.image.now} c.requires.1.1.1.0 c.requires.1.1.1.1 c.loop-at-test.true c.from-at.ensures
+    let w = pick {image = c.args.image.now} c.requires.0 c.requires.1 c.loop-at-test.true c.from-at.ensures
     c.ticket_at-k.ensures c.name_at-own.ensures c.place_of-place.ensures in
     λ t x. near_none x w (omega (arith, c.if-place-ge256.false)) c.ticket_at-grant.ensures (sym c.recall_parent_ok.ensures ∙ c.if-not-recall_parent_ok.false) c.if-k-own.true c.if-key-gt256.true
 
 pub ticket_at-child-requires : goal.ticket_at-child-requires
-ticket_at-child-requires c =
-    let w = pick {image = c.args.image.now} c.requires.1.1.1.0 c.requires.1.1.1.1 c.loop-at-test.true c.from-at.ensures
-    c.ticket_at-k.ensures c.name_at-own.ensures c.place_of-place.ensures in
-    (c.requires.0, omega (arith, c.if-key-gt256.false, has_key w))
+ticket_at-child-requires c = let w = pick {image = c.args.image.now} c.requires.0 c.requires.1 c.loop-at-test.true c.from-at.ensures c.ticket_at-k.ensures c.name_at-own.ensures c.place_of-place.ensures in omega (arith, c.if-key-gt256.false, has_key w)
 
 pub returns-then-not-is_child_of : goal.returns-then-not-is_child_of
 returns-then-not-is_child_of c =
-    let w = pick {image = c.args.image.now} c.requires.1.1.1.0 c.requires.1.1.1.1 c.loop-at-test.true c.from-at.ensures
+    let w = pick {image = c.args.image.now} c.requires.0 c.requires.1 c.loop-at-test.true c.from-at.ensures
     c.ticket_at-k.ensures c.name_at-own.ensures c.place_of-place.ensures in
     λ t x. near_bad x w (omega (arith, c.if-place-ge256.false)) c.ticket_at-grant.ensures (sym c.recall_parent_ok.ensures ∙ c.if-not-recall_parent_ok.false)
     c.if-k-own.true (omega (arith, c.if-key-gt256.false, has_key w)) c.ticket_at-child.ensures (sym c.is_child_of.ensures ∙ c.if-not-is_child_of.true)
 
 pub returns-then-not-may_name : goal.returns-then-not-may_name
 returns-then-not-may_name c =
-    let w = pick {image = c.args.image.now} c.requires.1.1.1.0 c.requires.1.1.1.1 c.loop-at-test.true c.from-at.ensures
+    let w = pick {image = c.args.image.now} c.requires.0 c.requires.1 c.loop-at-test.true c.from-at.ensures
     c.ticket_at-k.ensures c.name_at-own.ensures c.place_of-place.ensures in
     λ t x. not_given x w (omega (arith, c.if-place-ge256.false)) c.ticket_at-grant.ensures (sym c.recall_parent_ok.ensures ∙ c.if-not-recall_parent_ok.false)
     c.if-k-own.false (sym c.may_name.ensures ∙ c.if-not-may_name.true)
 
 pub returns-then-not-far_entry_ok : goal.returns-then-not-far_entry_ok
 returns-then-not-far_entry_ok c =
-    let w = pick {image = c.args.image.now} c.requires.1.1.1.0 c.requires.1.1.1.1 c.loop-at-test.true c.from-at.ensures
+    let w = pick {image = c.args.image.now} c.requires.0 c.requires.1 c.loop-at-test.true c.from-at.ensures
     c.ticket_at-k.ensures c.name_at-own.ensures c.place_of-place.ensures in
     λ t x. far_bad x w (omega (arith, c.if-place-ge256.false)) c.ticket_at-grant.ensures (sym c.recall_parent_ok.ensures ∙ c.if-not-recall_parent_ok.false)
     c.if-k-own.false (sym c.may_name.ensures ∙ c.if-not-may_name.false) c.note_of-note.result c.note_of-note.ensures c.entry_at-e.ensures
@@ -55,7 +52,7 @@ returns-then-not-far_entry_ok c =
 
 pub loop-at-preserved : goal.loop-at-preserved
 loop-at-preserved c =
-    let w = pick {image = c.args.image.now} c.requires.1.1.1.0 c.requires.1.1.1.1 c.loop-at-test.true c.from-at.ensures
+    let w = pick {image = c.args.image.now} c.requires.0 c.requires.1 c.loop-at-test.true c.from-at.ensures
     c.ticket_at-k.ensures c.name_at-own.ensures c.place_of-place.ensures in
     λ t x. held_more x w c.args.recalls.now c.loop-at.at-index c.from-at.ensures (c.loop-at.invariant t x)
     (elim c.if-k-own.branch [
@@ -73,4 +70,4 @@ loop-at-preserved c =
 
 pub returns : goal.returns
 returns c =
-    λ t x. held_end x c.args.recalls.now c.requires.1.1.1.0 c.loop-at.at-index (omega arith) (c.loop-at.invariant t x)
+    λ t x. held_end x c.args.recalls.now c.requires.0 c.loop-at.at-index (omega arith) (c.loop-at.invariant t x)

@@ -15,7 +15,7 @@ use Rattle.order_recalls.proofs.recalls_ok.Goals.{then-dead_once, else-dead_once
 
 pub returns-then-is_empty-3 : goal.returns-then-is_empty-3
 returns-then-is_empty-3 c =
-    λ t x. no_recalls x _ _ _ c.requires.1.1.1.0.0 c.requires.1.1.1.0.1 c.requires.1.1.1.1
+    λ t x. no_recalls x _ _ _ c.requires.0.0 c.requires.0.1 c.requires.1
     (eqb-true _ _ (sym c.is_empty.ensures ∙ c.if-is_empty.true))
     (eqb-true _ _ (sym c.is_empty-then-is_empty.ensures ∙ c.if-is_empty-2.true))
     (eqb-true _ _ (sym c.is_empty-then-is_empty-2.ensures ∙ c.if-is_empty-3.true))
@@ -24,20 +24,14 @@ pub returns-then-not-each_holds : goal.returns-then-not-each_holds
 returns-then-not-each_holds c = λ t x. not_each x (sym (c.each_holds.ensures t x) ∙ c.if-not-each_holds.true)
 
 pub mark_places-requires : goal.mark_places-requires
-mark_places-requires c = (
-  search rules,
-  (search rules, keys_listed c.args.numbers.now _ (tickets_in c.args.image.now) _ c.write_keys.ensures (tickets_long c.args.image.now) c.requires.1.1.1.0.1),
-)
+mark_places-requires c = (search rules, keys_listed c.args.numbers.now _ (tickets_in c.args.image.now) _ c.write_keys.ensures (tickets_long c.args.image.now) c.requires.0.1)
 
 pub dead_once-requires : goal.dead_once-requires
-dead_once-requires c = (
-  search rules,
-  keys_listed c.args.numbers.now _ (tickets_in c.args.image.now) _ c.write_keys.ensures (tickets_long c.args.image.now) c.requires.1.1.1.0.1,
-)
+dead_once-requires c = keys_listed c.args.numbers.now _ (tickets_in c.args.image.now) _ c.write_keys.ensures (tickets_long c.args.image.now) c.requires.0.1
 
 pub returns-then-all_marked : goal.returns-then-all_marked
 returns-then-all_marked c =
-    let fits = targets_fit c.args.image.now (λ i. omega (arith, c.type_inv.image i)) in
+    let fits = targets_fit c.args.image.now (λ i. omega (arith, c.fits-image i)) in
     λ t x. elim c.if-dead_once.branch [
       | then-dead_once d ↦
           elim c.if-mark_places.branch [
@@ -45,7 +39,7 @@ returns-then-all_marked c =
                 c.all_marked-then-all_marked.ensures
                 ∙ whole x fits c.write_keys.ensures (sym (c.each_holds.ensures t x) ∙ c.if-not-each_holds.false) _
                 (subst (Marked _ _) m.if-mark_places.true c.mark_places.ensures) (sym m.dead_once.ensures ∙ sym m.value-is ∙ d.if-dead_once.true) _ _
-                c.requires.1.1.1.0.0 c.requires.1.1.1.1 (sym d.all_marked.ensures ∙ sym d.value-is ∙ c.if-all_marked.true)
+                c.requires.0.0 c.requires.1 (sym d.all_marked.ensures ∙ sym d.value-is ∙ c.if-all_marked.true)
             | else-mark_places m ↦ cc
           ]
       | else-dead_once d ↦ cc
@@ -53,7 +47,7 @@ returns-then-all_marked c =
 
 pub returns-else-all_marked : goal.returns-else-all_marked
 returns-else-all_marked c =
-    let fits = targets_fit c.args.image.now (λ i. omega (arith, c.type_inv.image i)) in
+    let fits = targets_fit c.args.image.now (λ i. omega (arith, c.fits-image i)) in
     λ t x. c.if-all_marked.false
     ∙ elim c.if-dead_once.branch [
       | then-dead_once d ↦
@@ -61,7 +55,7 @@ returns-else-all_marked c =
             | then-mark_places m ↦
                 child_unmarked x fits c.write_keys.ensures (sym (c.each_holds.ensures t x) ∙ c.if-not-each_holds.false) _
                 (subst (Marked _ _) m.if-mark_places.true c.mark_places.ensures) (sym m.dead_once.ensures ∙ sym m.value-is ∙ d.if-dead_once.true) _
-                c.requires.1.1.1.0.0 (sym d.all_marked.ensures ∙ sym d.value-is ∙ c.if-all_marked.false)
+                c.requires.0.0 (sym d.all_marked.ensures ∙ sym d.value-is ∙ c.if-all_marked.false)
             | else-mark_places m ↦ cc
           ]
       | else-dead_once d ↦

@@ -15,19 +15,19 @@ returns-then-first-count-gt256 c =
     let this = rw c.from.ensures at c.entry_at-e.ensures in
     elim c.then-first-count-gt256.branch [
       | then-first-count-gt256-via-then-first-count-gt256 w ↦
-          absurd (swept_past _ _ c.requires.1 c.loop-at.at-index c.loop-at-test.true _ so _ this sp (omega arith))
+          absurd (swept_past _ _ c.requires c.loop-at.at-index c.loop-at-test.true _ so _ this sp (omega arith))
       | then-first-count-gt256-via-else-first-count-gt256+then-not-mark w ↦
-          swept_shared _ _ c.requires.1 c.loop-at.at-index c.loop-at-test.true _ so _ this (entries_long c.args.image.now)
+          swept_shared _ _ c.requires c.loop-at.at-index c.loop-at-test.true _ so _ this (entries_long c.args.image.now)
           (rw (c.from-first.ensures, c.from-count.ensures) at (w.mark.ensures.shared w.if-not-mark.true))
     ]
 
 pub loop-at-preserved : goal.loop-at-preserved
 loop-at-preserved c = (
   omega arith,
-  λ sp. swept_more _ _ c.requires.1 c.loop-at.at-index c.loop-at-test.true _ (c.loop-at.invariant.1 sp) _ (rw c.from.ensures at c.entry_at-e.ensures) _
+  λ sp. swept_more _ _ c.requires c.loop-at.at-index c.loop-at-test.true _ (c.loop-at.invariant.1 sp) _ (rw c.from.ensures at c.entry_at-e.ensures) _
       (rw (c.from-first.ensures, c.from-count.ensures) at (c.mark.ensures.fresh c.if-not-mark.false)) sp,
 )
 
 pub returns : goal.returns
 returns c =
-    λ sp. swept_end _ _ c.requires.1 (entries_long c.args.image.now) c.loop-at.at-index _ (omega arith) (c.loop-at.invariant.1 sp)
+    λ sp. swept_end _ _ c.requires (entries_long c.args.image.now) c.loop-at.at-index _ (omega arith) (c.loop-at.invariant.1 sp)

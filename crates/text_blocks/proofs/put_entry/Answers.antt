@@ -11,10 +11,7 @@ use Rattle.text_blocks.proofs.Lines.{line_room_lem, line_put}
 use Rattle.text_blocks.proofs.put_entry.Goals as goal
 
 pub entry_at-e-requires : goal.entry_at-e-requires
-entry_at-e-requires c =
-    let p = c.requires.1 in
-    let low = ltb-true (get_or c.args.notes.now c.args.place 0) 256 (p.0.has c.args.place p.1.0 ∙ p.1.1.0) in
-    (c.requires.0.long, omega (arith, c.from.ensures, low))
+entry_at-e-requires c = let p = c.requires.1 in let low = ltb-true (get_or c.args.notes.now c.args.place 0) 256 (p.0.has c.args.place p.1.0 ∙ p.1.1.0) in omega (arith, c.from.ensures, low)
 
 pub append_row-requires : goal.append_row-requires
 append_row-requires c =

@@ -7,7 +7,7 @@ use Rattle.text_grants.proofs.put_program.Goals as goal
 pub loop-i-init : goal.loop-i-init
 loop-i-init c =
     let a = c.args in
-    going_none a.image.now a.marks.now a.out.now a.before a.program _ _ c.taken_numbers-numbers.ensures
+    going_none a.image.now a.marks.now a.out.now a.before a.program _ _ c.requires.0.scratch c.taken_numbers-numbers.ensures
     (c.into_iter-i-iterator.ensures.into_iter_gives ∙ c.by_number-i-items.ensures)
 
 pub overflow_add-sheets : goal.overflow_add-sheets
@@ -23,7 +23,7 @@ pub loop-i-preserved : goal.loop-i-preserved
 loop-i-preserved c =
     let p = c.put_ticket-end in
     going_more _ _ _ _ _ _ _ _ _ _ c.loop-i.invariant c.requires.0 c.requires.1.0 c.requires.1.1 _ _ c.in-Some.ensures.steps
-    _ c.count_at-sheets.ensures _ _ _ p.auto.marks p.auto.out p.ensures
+    _ c.count_at-sheets.ensures _ _ _ p.array_long p.auto.out p.ensures
 
 pub returns : goal.returns
 returns c = going_end _ _ _ _ _ _ _ _ _ _ c.loop-i.invariant c.requires.0 c.requires.1.0 c.requires.1.1 c.in-None.ensures.steps.0

@@ -6,7 +6,7 @@ use Rattle.text_grants.proofs.put_taken.Goals as goal
 pub loop-program-init : goal.loop-program-init
 loop-program-init c =
     let a = c.args in
-    round_none a.image.now a.marks.now a.out.now a.at
+    round_none a.image.now a.marks.now a.out.now a.at c.requires.scratch
 
 pub put_program-printing-requires : goal.put_program-printing-requires
 put_program-printing-requires c =
@@ -17,7 +17,7 @@ put_program-printing-requires c =
 pub loop-program-preserved : goal.loop-program-preserved
 loop-program-preserved c =
     let p = c.put_program-printing in
-    round_more _ _ _ _ _ _ _ _ c.loop-program.invariant c.requires c.loop-program-test.true _ _ _ p.auto.marks p.auto.out p.ensures
+    round_more _ _ _ _ _ _ _ _ c.loop-program.invariant c.requires c.loop-program-test.true _ _ _ p.array_long p.auto.out p.ensures
 
 pub returns : goal.returns
 returns c =

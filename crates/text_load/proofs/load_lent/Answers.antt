@@ -8,31 +8,34 @@ use Rattle.image.specs.Layout.{image_size}
 use Rattle.text_load.proofs.WholeLoad.{other_length, other_form, read_whole, not_in_order, accepted}
 use Rattle.text_load.proofs.load_lent.Goals as goal
 
-pub returns-then-tables-ne-IMAGE : goal.returns-then-tables-ne-IMAGE
-returns-then-tables-ne-IMAGE c = other_length c.args.tables.now c.args.text.now c.if-tables-ne-IMAGE.true
+pub returns-in_default : goal.returns-in_default
+returns-in_default c = other_length c.args.tables.now c.args.text.now c.in_default.ensures.cases
 
 pub read_text-requires : goal.read_text-requires
-read_text-requires c = c.fill.ensures.after (λ y e. e) ∙ ap (λ n. replicate {A = ℕ} n 0) c.if-tables-ne-IMAGE.false
+read_text-requires c =
+    let long : length c.in-Some.image.now ≡ image_size = omega arith in
+    c.fill.ensures.after (λ y e. e) ∙ ap (λ n. replicate {A = ℕ} n 0) long
 
 pub returns-then-not-read_text : goal.returns-then-not-read_text
 returns-then-not-read_text c =
-    let long : length c.read_text.new.image ≡ image_size = omega arith in
-    other_form c.args.tables.now c.args.text.now c.if-tables-ne-IMAGE.false (sym c.read_text.ensures.answer ∙ c.if-not-read_text.true) _
-    (c.fill-then-not-read_text.ensures.after (λ y e. e) ∙ ap (λ n. replicate {A = ℕ} n 0) long)
+    other_form c.args.tables.now c.args.text.now c.in-Some.ensures.cases.long (sym c.read_text.ensures.answer ∙ c.if-not-read_text.true) _
+    (c.fill-then-not-read_text.ensures.after (λ y e. e) ∙ ap (λ n. replicate {A = ℕ} n 0) c.read_text.array_long)
+
+pub put_docks-requires : goal.put_docks-requires
+put_docks-requires c = (c.read_text.ensures.tables c.if-not-read_text.false).is
 
 pub returns-then-not-image_in_order : goal.returns-then-not-image_in_order
 returns-then-not-image_in_order c =
-    let long : length c.put_docks.new.image ≡ image_size = omega arith in
+    let long = c.in-Some.ensures.cases.long in
     let formed = sym c.read_text.ensures.answer ∙ c.if-not-read_text.false in
-    let held = read_whole c.args.tables.now c.args.text.now c.if-tables-ne-IMAGE.false _ _ (c.read_text.ensures.tables c.if-not-read_text.false)
-    c.put_docks.ensures in
-    not_in_order c.args.tables.now c.args.text.now c.if-tables-ne-IMAGE.false formed _ held (sym c.image_in_order.ensures ∙ c.if-not-image_in_order.true) _
-    (c.fill-then-not-image_in_order.ensures.after (λ y e. e) ∙ ap (λ n. replicate {A = ℕ} n 0) long)
+    let held = read_whole c.args.tables.now c.args.text.now long _ _ (c.read_text.ensures.tables c.if-not-read_text.false) c.put_docks.ensures in
+    not_in_order c.args.tables.now c.args.text.now long formed _ held (sym c.image_in_order.ensures ∙ c.if-not-image_in_order.true) _
+    (c.fill-then-not-image_in_order.ensures.after (λ y e. e) ∙ ap (λ n. replicate {A = ℕ} n 0) c.put_docks.array_long)
 
 pub returns : goal.returns
 returns c =
+    let long = c.in-Some.ensures.cases.long in
     let formed = sym c.read_text.ensures.answer ∙ c.if-not-read_text.false in
-    let held = read_whole c.args.tables.now c.args.text.now c.if-tables-ne-IMAGE.false _ _ (c.read_text.ensures.tables c.if-not-read_text.false)
-    c.put_docks.ensures in
-    accepted c.args.tables.now c.args.text.now c.if-tables-ne-IMAGE.false formed _ held (sym c.image_in_order.ensures ∙ c.if-not-image_in_order.false)
+    let held = read_whole c.args.tables.now c.args.text.now long _ _ (c.read_text.ensures.tables c.if-not-read_text.false) c.put_docks.ensures in
+    accepted c.args.tables.now c.args.text.now long formed _ held (sym c.image_in_order.ensures ∙ c.if-not-image_in_order.false)
     (search rules)

@@ -34,7 +34,7 @@ returns-then-not-has_room c =
 pub put_row-requires : goal.put_row-requires
 put_row-requires c =
     let g = c.loop-from.invariant in
-    (g.filled.is, (g.tallied.long, (row_in_form _ _ c.in-Some.ensures, ltb-true _ _ (sym c.has_room.ensures ∙ c.if-not-has_room.false))))
+    (g.filled.is, (row_in_form _ _ c.in-Some.ensures, ltb-true _ _ (sym c.has_room.ensures ∙ c.if-not-has_room.false)))
 
 pub loop-from-preserved : goal.loop-from-preserved
 loop-from-preserved c =

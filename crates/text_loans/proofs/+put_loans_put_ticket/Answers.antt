@@ -14,7 +14,7 @@ use Rattle.text_loans.proofs.+put_loans_put_ticket.Goals as goal
 pub put_loans-loop-i-init : goal.put_loans-loop-i-init
 put_loans-loop-i-init t c =
     let a = c.args in
-    going_none a.image.now a.marks.now a.out.now a.at a.depth a.place _ _ c.loan_numbers-numbers.ensures
+    going_none a.image.now a.marks.now a.out.now a.at a.depth a.place _ _ c.requires.scratch c.loan_numbers-numbers.ensures
     (c.into_iter-i-iterator.ensures.into_iter_gives ∙ c.by_number-i-items.ensures)
 
 pub put_loans-loan_place-requires : goal.put_loans-loan_place-requires
@@ -31,7 +31,7 @@ pub put_loans-loop-i-preserved-in-Some-loan_place : goal.put_loans-loop-i-preser
 put_loans-loop-i-preserved-in-Some-loan_place t c =
     let p = c.put_ticket-total in
     going_more _ _ _ _ _ _ _ _ _ _ c.loop-i.invariant c.requires _ _ c.in-Some.ensures.steps _ c.in-Some-loan_place.ensures _ _ _
-    p.auto.marks p.auto.out p.ensures
+    p.array_long p.auto.out p.ensures
 
 pub put_loans-loop-i-preserved : goal.put_loans-loop-i-preserved
 put_loans-loop-i-preserved t c =
@@ -57,7 +57,7 @@ put_ticket-put_loans-requires t c =
     let clear = sym c.is_marked.ensures ∙ c.if-is_marked.false in
     let fall = less _ _ _ _ _ pre clear in
     let now = ap unmarked c.mark.ensures in
-    (omega (arith, fall, now), loans_fit _ _ _ _ _ pre clear _ c.mark.auto.marks c.mark.ensures _ c.put_row-end.ensures.total)
+    (omega (arith, fall, now), loans_fit _ _ _ _ _ pre clear _ c.mark.array_long c.mark.ensures _ c.put_row-end.ensures.total)
 
 pub put_ticket-returns : goal.put_ticket-returns
 put_ticket-returns t c =

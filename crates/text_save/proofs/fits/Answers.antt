@@ -14,7 +14,7 @@ use Rattle.text_save.proofs.fits.Goals as goal
 pub returns-then-room-ge-ROOM : goal.returns-then-room-ge-ROOM
 returns-then-room-ge-ROOM c =
     let image = c.args.image.now in
-    let short = text_short image c.requires (λ i. omega (arith, c.type_inv.image i)) in
+    let short = text_short image c.requires (λ i. omega (arith, c.fits-image i)) in
     le-leb _ _ c.if-room-ge-ROOM.true ∙ sym (le-leb (length (saved (decode image))) c.args.room (omega (arith, short, c.if-room-ge-ROOM.true)))
 
 pub returns-else-room-ge-ROOM : goal.returns-else-room-ge-ROOM

@@ -1,9 +1,7 @@
 -- A line of another form gets its line and changes nothing; the request of a line in form is served, and its answer appended.
-use Prim.Native.Nat.{ℕ}
 use native.Mathlib.Omega.{arith}
 use borrow.Author.Rules.{rules}
 use mathlib.Core.Path.{sym, subst}
-use lib.ListN.{length-replicate}
 use Rattle.text.specs.Appending.{Countable}
 use Rattle.text.proofs.Appending.{append_as}
 use Rattle.text_trace.proofs.LineServed.{same_dock, other_text, other_holds, served_text, served_holds}
@@ -28,10 +26,7 @@ returns-in_default c =
 pub request-answer-requires : goal.request-answer-requires
 request-answer-requires c =
     let p = c.requires.0 in
-    record { is = p.is; order = p.order; lengths = record { store = p.store; sheet = length-replicate {A = ℕ} 64 c.in-Some.asked.fill } }
-
-pub first_byte-byte-requires : goal.first_byte-byte-requires
-first_byte-byte-requires c = omega (arith, c.request-answer.auto.sheet, length-replicate {A = ℕ} 64 c.in-Some.asked.fill)
+    record { is = p.is; order = p.order; lengths = record { store = p.store; sheet = omega arith } }
 
 pub append_answer-requires : goal.append_answer-requires
 append_answer-requires c =

@@ -40,7 +40,7 @@ loop-from-smaller c =
 pub loop-from-preserved : goal.loop-from-preserved
 loop-from-preserved c =
     let line = c.serve_line-total in
-    next _ _ _ _ _ _ _ _ _ _ _ c.loop-from.invariant _ c.find.ensures c.loop-from-test.true _ _ _ _ line.ensures.appends line.ensures.leaves_dock line.auto.store
+    next _ _ _ _ _ _ _ _ _ _ _ c.loop-from.invariant _ c.find.ensures c.loop-from-test.true _ _ _ _ line.ensures.appends line.ensures.leaves_dock (omega arith)
 
 pub returns : goal.returns
 returns c =
