@@ -14,6 +14,7 @@ use Rattle.machine.specs.State.{accepted, clear_sheets, asked_name, asked, state
 use Rattle.machine.specs.Operation.{giving_back, operation_of}
 use Rattle.machine.specs.GiveBack.{give_back_refusal, give_back_tables, after_give_back}
 use Rattle.machine.specs.Step.{own_refusal, after_own, serve}
+use Rattle.machine.proofs.RefusalLaws.{never_zero}
 use Rattle.op_form.proofs.Numbers.{op_give_back}
 use Rattle.op_refusals.proofs.Results.{give_back_not_lost, gives_taken}
 use Rattle.op_outcome.specs.Outcomes.{outcome_of, plainly}
@@ -45,7 +46,8 @@ module _ (t : Tables) (store sheet : List ℕ) (r : Request) (asks : Asks 4 r) w
 
   pub refused : (refusal : Refusal) → number_of refusal ≡ give_back_refusal t r → outcome_of (plainly (number_of refusal)) t store sheet ≡ serve (state_of t store sheet) r
   unfolding own_refusal
-  refused refusal e = served_refused t store sheet r asks.early giving_back op refusal e (λ z. give_back_not_lost t r (sym e ∙ z))
+  refused refusal e =
+      served_refused t store sheet r asks.early giving_back op (number_of refusal) (sym e) (never_zero refusal) (λ z. give_back_not_lost t r (sym e ∙ z))
 
   pub given_back : 0 ≡ give_back_refusal t r → {u : Tables} → u ≡ give_back_tables t r → {bytes : List ℕ}
       → bytes ≡ clear_sheets (asked t r).first (asked t r).count store → outcome_of (plainly 0) u bytes sheet ≡ serve (state_of t store sheet) r

@@ -11,9 +11,7 @@ use Rattle.tables.specs.Kinds.{is_grant, is_head}
 use Rattle.tables.specs.Lookup.{lookup}
 use Rattle.tables.specs.Chains.{at_or_under}
 use Rattle.tables.specs.Change.{drop_tickets}
-use Rattle.machine.specs.declared.{Request.Request, Answer.Answer, Refusal.Refusal}
-use Rattle.machine.specs.Refusal.{number_of}
-use Rattle.machine.proofs.RefusalLaws.{never_zero}
+use Rattle.machine.specs.declared.{Request.Request, Answer.Answer}
 use Rattle.machine.specs.State.{State, Outcome, refused, with_tables, asked_name, asked, state_of}
 use Rattle.machine.specs.Operation.{Operation, operation_of}
 use Rattle.machine.specs.Step.{own_refusal, after_own, drop_head, outcome, serve}
@@ -42,10 +40,9 @@ module _ (t : Tables) (store sheet : List ℕ) (r : Request) (z : early_refusal 
   unfolding outcome refused with_tables
   served_lost e = sym (by_own ∙ rw e)
 
-  pub served_refused : (refusal : Refusal) → number_of refusal ≡ own_refusal op t r → (number_of refusal ≡ 12 → ⊥)
-      → outcome_of (plainly (number_of refusal)) t store sheet ≡ serve before r
+  pub served_refused : (n : ℕ) → own_refusal op t r ≡ n → (n ≡ 0 → ⊥) → (n ≡ 12 → ⊥) → outcome_of (plainly n) t store sheet ≡ serve before r
   unfolding outcome refused
-  served_refused refusal e ne = sym (by_own ∙ rw (sym e, ne_eqb (number_of refusal) 0 (never_zero refusal), ne_eqb (number_of refusal) 12 ne))
+  served_refused n e ne ne' = sym (by_own ∙ rw (e, ne_eqb n 0 ne, ne_eqb n 12 ne'))
 
 -- ---- the outcome is left in the buffers
 module _ {o : Outcome} {a : Answer} {image store sheet : List ℕ} where
@@ -65,31 +62,31 @@ lost t r k e heads g =
     ap (λ (h : Name). drop_tickets (at_or_under t h) t) (ap (λ (x : Ticket). x.dock) (sym e) ∙ sym (heads.head (asked_name r) g))
 
 -- ---- what a refusal of a request for a ticket leaves
-module _ (t : Tables) (r : Request) (asks : early_refusal r ≡ 0) (refusal : Refusal)
-    (k : Ticket) (found : asked t r ≡ k) (ready : Ready t) (grant : number_of refusal ≡ 12 → is_grant (asked t r).kind ≡ true) where
-  pub may_refuse : MayRefuse t refusal k
+module _ (t : Tables) (r : Request) (asks : early_refusal r ≡ 0) (n : ℕ) (ne : n ≡ 0 → ⊥)
+    (k : Ticket) (found : asked t r ≡ k) (ready : Ready t) (grant : n ≡ 12 → is_grant (asked t r).kind ≡ true) where
+  pub may_refuse : MayRefuse t n k
   may_refuse = record {
     ready = ready;
-    head = λ e. subst (λ (x : Ticket). is_head (lookup t x.dock).kind ≡ true) found (ready.heads.kind (asked_name r) (grant (ap number_of e)));
+    head = λ e. subst (λ (x : Ticket). is_head (lookup t x.dock).kind ≡ true) found (ready.heads.kind (asked_name r) (grant e));
   }
 
-  refused_served : (store sheet : List ℕ) (op : Operation) → operation_of r.op ≡ op → number_of refusal ≡ own_refusal op t r
-      → outcome_of (plainly (number_of refusal)) (after_refusal t (number_of refusal) k) store sheet ≡ serve (state_of t store sheet) r
+  refused_served : (store sheet : List ℕ) (op : Operation) → operation_of r.op ≡ op → own_refusal op t r ≡ n
+      → outcome_of (plainly n) (after_refusal t n k) store sheet ≡ serve (state_of t store sheet) r
   unfolding after_refusal
-  refused_served store sheet op o own = go (case (eqb (number_of refusal) 12))
+  refused_served store sheet op o own = go (case (eqb n 12))
     where
-      go : Case (eqb (number_of refusal) 12) → outcome_of (plainly (number_of refusal)) (after_refusal t (number_of refusal) k) store sheet ≡ serve (state_of t store sheet) r
+      go : Case (eqb n 12) → outcome_of (plainly n) (after_refusal t n k) store sheet ≡ serve (state_of t store sheet) r
       go (pass e) =
-          let twelve : number_of refusal ≡ 12 = eqb-true (number_of refusal) 12 e in
+          let twelve : n ≡ 12 = eqb-true n 12 e in
           (λ i. outcome_of (plainly (twelve i)) (cond (e i) (drop_tickets (at_or_under t k.dock) t) t) store sheet)
           ∙ ap (λ (u : Tables). outcome_of (plainly 12) u store sheet) (lost t r k found ready.heads (grant twelve))
-          ∙ served_lost t store sheet r asks op o (sym own ∙ twelve)
+          ∙ served_lost t store sheet r asks op o (own ∙ twelve)
       go (fail e) =
-          (λ i. outcome_of (plainly (number_of refusal)) (cond (e i) (drop_tickets (at_or_under t k.dock) t) t) store sheet)
-          ∙ served_refused t store sheet r asks op o refusal own (eqb-false (number_of refusal) 12 e)
+          (λ i. outcome_of (plainly n) (cond (e i) (drop_tickets (at_or_under t k.dock) t) t) store sheet)
+          ∙ served_refused t store sheet r asks op o n own ne (eqb-false n 12 e)
 
-  pub refuses : {a : Answer} {image store sheet : List ℕ} → Refuses t refusal k a image → (op : Operation) → operation_of r.op ≡ op
-      → number_of refusal ≡ own_refusal op t r → Serves (serve (state_of t store sheet) r) a image store sheet
+  pub refuses : {a : Answer} {image store sheet : List ℕ} → Refuses t n k a image → (op : Operation) → operation_of r.op ≡ op → own_refusal op t r ≡ n
+      → Serves (serve (state_of t store sheet) r) a image store sheet
   refuses {store = store} {sheet = sheet} left op o own = leaves left.holds left.answer (refused_served store sheet op o own)
 
 -- ---- tickets removed leave the entries linked

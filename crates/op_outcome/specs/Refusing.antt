@@ -5,22 +5,20 @@ use Rattle.tables.specs.Kinds.{is_head}
 use Rattle.tables.specs.Lookup.{lookup}
 use Rattle.tables.specs.Chains.{at_or_under}
 use Rattle.tables.specs.Change.{drop_tickets}
-use Rattle.machine.specs.declared.{Answer.Answer, Refusal.Refusal}
-use Rattle.machine.specs.declared.Refusal.TheVariants.{NoEntry}
-use Rattle.machine.specs.Refusal.{number_of}
+use Rattle.machine.specs.declared.Answer.{Answer}
 use Rattle.image_write.specs.Shows.{Holds}
 use Rattle.op_outcome.specs.Outcomes.{plainly}
 use Rattle.op_outcome.specs.Ready.{Ready}
 
-pub record MayRefuse (t : Tables) (refusal : Refusal) (k : Ticket) : Type 0 where
+pub record MayRefuse (t : Tables) (result : ℕ) (k : Ticket) : Type 0 where
   pub ready : Ready t
   -- T3: the dock name of a grant is that of its chain's head
-  pub head : refusal ≡ NoEntry → is_head (lookup t k.dock).kind ≡ true
+  pub head : result ≡ 12 → is_head (lookup t k.dock).kind ≡ true
 
 -- "Every refusal leaves tables .. untouched, except 12": then "the taken or received grant that heads the chain, and all under it" go
 unfoldable pub after_refusal : Tables → ℕ → Ticket → Tables
 after_refusal t result k = cond (eqb result 12) (drop_tickets (at_or_under t k.dock) t) t
 
-pub record Refuses (t : Tables) (refusal : Refusal) (k : Ticket) (a : Answer) (image : List ℕ) : Type 0 where
-  pub answer : a ≡ plainly (number_of refusal)
-  pub holds : Holds image (after_refusal t (number_of refusal) k)
+pub record Refuses (t : Tables) (result : ℕ) (k : Ticket) (a : Answer) (image : List ℕ) : Type 0 where
+  pub answer : a ≡ plainly result
+  pub holds : Holds image (after_refusal t result k)

@@ -18,6 +18,7 @@ use Rattle.machine.specs.State.{answer_of, accepted, with_tables, asked_name, as
 use Rattle.machine.specs.Operation.{passing, operation_of}
 use Rattle.machine.specs.Pass.{pass_tables, after_pass}
 use Rattle.machine.specs.Step.{own_refusal, after_own, serve}
+use Rattle.machine.proofs.RefusalLaws.{never_zero}
 use Rattle.op_form.proofs.Numbers.{op_pass}
 use Rattle.op_refusals.proofs.Results.{pass_grant}
 use Rattle.op_outcome.specs.Outcomes.{outcome_of, Serves}
@@ -25,7 +26,7 @@ use Rattle.op_outcome.specs.Ready.{Ready, Asks}
 use Rattle.op_outcome.specs.Refusing.{MayRefuse, Refuses}
 use Rattle.op_outcome.proofs.Laws.{may_refuse, refuses, served_done}
 use Rattle.op_pass.specs.declared.Numbers.{Numbers}
-use Rattle.op_pass.specs.Decides.{Decides}
+use Rattle.op_pass.specs.Decides.{DecidesFor}
 use Rattle.op_pass.specs.Grant.{granted}
 
 -- ---- the recipient's grant, from the parts that the code has made
@@ -53,20 +54,24 @@ module _ (t : Tables) (r : Request) (ready : Ready t) (asks : Asks 2 r) where
   op = op_pass r.op asks.number
 
   -- it is refused; 12 is said of a grant
-  module _ {refusal : Refusal} (is : Decides t r (Err refusal)) (k : Ticket) (found : asked t r ≡ k) where
+  module _ {refusal : Refusal} (is : DecidesFor t r (Err refusal)) (k : Ticket) (found : asked t r ≡ k) where
     lost_grant : number_of refusal ≡ 12 → is_grant (asked t r).kind ≡ true
     lost_grant e = pass_grant t r 12 (λ z. omega (arith, z)) (λ z. omega (arith, z)) (sym is.result ∙ e)
 
-    pub may_be_refused : MayRefuse t refusal k
-    may_be_refused = may_refuse t r asks.early refusal k found ready lost_grant
+    module _ (n : ℕ) (of : n ≡ number_of refusal) where
+      not_zero : n ≡ 0 → ⊥
+      not_zero z = never_zero refusal (sym of ∙ z)
 
-    pub refused : {a : Answer} {image : List ℕ} → Refuses t refusal k a image
-        → (store sheet : List ℕ) → Serves (serve (state_of t store sheet) r) a image store sheet
-    unfolding own_refusal
-    refused left store sheet = refuses t r asks.early refusal k found ready lost_grant left passing op is.result
+      pub may_be_refused : MayRefuse t n k
+      may_be_refused = may_refuse t r asks.early n not_zero k found ready (λ e. lost_grant (sym of ∙ e))
+
+      pub refused : {a : Answer} {image : List ℕ} → Refuses t n k a image
+          → (store sheet : List ℕ) → Serves (serve (state_of t store sheet) r) a image store sheet
+      unfolding own_refusal
+      refused left store sheet = refuses t r asks.early n not_zero k found ready (λ e. lost_grant (sym of ∙ e)) left passing op (sym (of ∙ is.result))
 
   -- it is accepted
-  module _ {numbers : Numbers} (is : Decides t r (Ok numbers)) (k : Ticket) (found : asked t r ≡ k) where
+  module _ {numbers : Numbers} (is : DecidesFor t r (Ok numbers)) (k : Ticket) (found : asked t r ≡ k) where
     -- the sheets lent are within the ticket's, so within the store
     pub first_fits : k.first ≤ 256
     first_fits =

@@ -11,11 +11,12 @@ ghost use Rattle.image.specs.Image.{decode, is_image};
 ghost use Rattle.image_write.specs.Shows.{Holds};
 ghost use Rattle.op_outcome.specs.Outcomes.{Serves};
 ghost use Rattle.op_outcome.specs.Ready.{Ready, Asks};
-ghost use Rattle.op_pass.specs.Decides.{Decides};
+ghost use Rattle.op_pass.specs.Decides.{DecidesFor, Decides};
 ghost use Rattle.op_pass.specs.Grant.{granted};
 
 use image::Image;
 use machine::{Answer, Refusal, Request};
+use op_outcome::Decision;
 use tables::{Kind, Name, Ticket};
 
 // What an accepted pass needs: the new numbers of asker and recipient.
@@ -35,9 +36,9 @@ fn is_lost(image: &Image, d: Name, r: Request) -> bool
 // The new numbers of a pass of the ticket k asked for; or 4, 5, 8, 6, 7, 9, 10 or 12. Nothing changes. Seats and dock are asked only where
 // the ticket refuses nothing.
 #[tactic(auto, using(op_refusals::proofs::Parts::pass_parts))]
-pub fn allowed(image: &Image, k: Ticket, r: Request) -> Result<Numbers, Refusal>
+pub fn allowed_by(image: &Image, k: Ticket, r: Request) -> Result<Numbers, Refusal>
     requires { Asks 2 r }
-    ensures { asked (decode image.now) r ≡ k → Decides (decode image.now) r result }
+    ensures { asked (decode image.now) r ≡ k → DecidesFor (decode image.now) r result }
 {
     op_refusals::pass_ticket(k, r)?;
     let p = op_outcome::seat(image, r.pad, r.program);
@@ -48,6 +49,16 @@ pub fn allowed(image: &Image, k: Ticket, r: Request) -> Result<Numbers, Refusal>
         own: p.last + 1,
         other: q.last + 1,
     })
+}
+
+// The same of the ticket that the request asks for, which comes with it.
+pub fn allowed(image: &Image, r: Request) -> Decision<Numbers>
+    requires { Asks 2 r }
+    ensures { Decides (decode image.now) r result }
+{
+    let ticket = op_outcome::asked(image, r);
+    let found = allowed_by(image, ticket, r);
+    Decision { ticket, found }
 }
 
 // The recipient gets its grant, of the name n. On the same pad it is a child, and the dock isn't told; to another pad it is a received
@@ -75,10 +86,10 @@ pub fn pass(image: &mut Image, r: Request) -> Answer
     requires { (is_image image.old ≡ true) × (Ready (decode image.old) × Asks 2 r) }
     ensures { (store : List ℕ) (sheet : List ℕ) → Serves (serve (state_of (decode image.old) store sheet) r) result image.new store sheet }
 {
-    let k = op_outcome::asked(image, r);
-    let numbers = match allowed(image, k, r) {
+    let d = allowed(image, r);
+    let numbers = match d.found {
         Ok(numbers) => numbers,
-        Err(refusal) => return op_outcome::refuse(image, refusal, k),
+        Err(refusal) => return op_outcome::refuse(image, refusal.into(), d.ticket),
     };
     let n = Name {
         pad: r.topad,
@@ -87,6 +98,6 @@ pub fn pass(image: &mut Image, r: Request) -> Answer
     };
     let recall = op_make::recall(numbers.own, r.ticket, n);
     op_outcome::give(image, r.pad, r.program, recall);
-    grant(image, k, r, n);
+    grant(image, d.ticket, r, n);
     Answer::accepted(numbers.own, numbers.other)
 }

@@ -15,6 +15,7 @@ use Rattle.machine.specs.State.{accepted, with_tables, asked_name, asked, state_
 use Rattle.machine.specs.Operation.{recalling, operation_of}
 use Rattle.machine.specs.Recall.{recall_refusal, recall_tables, after_recall}
 use Rattle.machine.specs.Step.{own_refusal, after_own, serve}
+use Rattle.machine.proofs.RefusalLaws.{never_zero}
 use Rattle.op_form.proofs.Numbers.{op_recall}
 use Rattle.op_follow.specs.Lent.{without_loan}
 use Rattle.op_refusals.proofs.Results.{recall_not_lost}
@@ -48,7 +49,8 @@ module _ (t : Tables) (store sheet : List ℕ) (r : Request) (asks : Asks 3 r) w
 
   pub refused : (refusal : Refusal) → number_of refusal ≡ recall_refusal t r → outcome_of (plainly (number_of refusal)) t store sheet ≡ serve (state_of t store sheet) r
   unfolding own_refusal
-  refused refusal e = served_refused t store sheet r asks.early recalling op refusal e (λ z. recall_not_lost t r (sym e ∙ z))
+  refused refusal e =
+      served_refused t store sheet r asks.early recalling op (number_of refusal) (sym e) (never_zero refusal) (λ z. recall_not_lost t r (sym e ∙ z))
 
   pub recalled : 0 ≡ recall_refusal t r → {u : Tables} → u ≡ recall_tables t r → outcome_of (plainly 0) u store sheet ≡ serve (state_of t store sheet) r
   unfolding own_refusal after_own after_recall accepted with_tables

@@ -12,16 +12,16 @@ ghost use Rattle.op_outcome.specs.Ready.{Ready, Asks};
 ghost use Rattle.op_outcome.specs.Decides.{Decides};
 
 use image::Image;
-use machine::{Answer, Refusal, Request};
-use tables::Ticket;
+use machine::{Answer, Request};
+use op_outcome::Decision;
 
-// The recall that is asked for; or 4 or 5. Nothing changes.
-pub fn allowed(image: &Image, r: Request) -> Result<Ticket, Refusal>
+// 4, 5, or that the recall is allowed. Nothing changes.
+pub fn allowed(image: &Image, r: Request) -> Decision<()>
     ensures { Decides recall_refusal (decode image.now) r result }
 {
-    let k = op_outcome::asked(image, r);
-    op_refusals::recall(k)?;
-    Ok(k)
+    let ticket = op_outcome::asked(image, r);
+    let found = op_refusals::recall(ticket);
+    Decision { ticket, found }
 }
 
 // What was lent is taken back. On the same pad the target and all under it go, with the recall, and in the dock what was lent away from
@@ -31,12 +31,12 @@ pub fn recall(image: &mut Image, r: Request) -> Answer
     requires { (is_image image.old ≡ true) × (Ready (decode image.old) × Asks 3 r) }
     ensures { (store : List ℕ) (sheet : List ℕ) → Serves (serve (state_of (decode image.old) store sheet) r) result image.new store sheet }
 {
-    let k = match allowed(image, r) {
-        Ok(k) => k,
-        Err(refusal) => return Answer::refused(refusal),
-    };
+    let d = allowed(image, r);
+    if let Err(refusal) = d.found {
+        return Answer::refused(refusal);
+    }
     let own = op_outcome::asked_name(r);
-    let target = k.other;
+    let target = d.ticket.other;
     if target.pad == r.pad {
         op_follow::drop_followed(image, own, target);
     } else {

@@ -53,8 +53,12 @@ module _ (t : Tables) (r : Request) (k : Ticket) (e : asked t r ≡ k) where
       (link 8 _ _ _ (λ z. omega (arith, z))
       (link 6 _ _ _ (λ z. omega (arith, z)) (link 7 _ _ _ (λ z. omega (arith, z)) (second_decides {x = 0} {a = 0} refl refl refl))))))
 
-  pub ticket_refuses : (refusal : Refusal) → number_of refusal ≡ pass_ticket_refusal k r → number_of refusal ≡ pass_refusal t r
-  ticket_refuses refusal said = first_refuses (room t r k) said (never_zero refusal) ∙ sym pass_in_parts
+  pub ticket_refuses : {first : ℕ} → first ≡ pass_ticket_refusal k r → (first ≡ 0 → ⊥) → first ≡ pass_refusal t r
+  ticket_refuses said ne = first_refuses (room t r k) said ne ∙ sym pass_in_parts
+
+  -- a refusal of the code's is never 0
+  pub ticket_refused : (refusal : Refusal) → number_of refusal ≡ pass_ticket_refusal k r → number_of refusal ≡ pass_refusal t r
+  ticket_refused refusal said = ticket_refuses said (never_zero refusal)
 
   pub room_decides : 0 ≡ pass_ticket_refusal k r → {p q : Seat} {lost : Bool} → Found t r k p q lost → {second : ℕ} → second ≡ pass_room_refusal p q lost
       → second ≡ pass_refusal t r
@@ -94,13 +98,16 @@ module _ (right : ℕ) (t : Tables) (r : Request) (k : Ticket) (e : asked t r �
       (link 5 _ _ _ (λ z. omega (arith, z))
       (link 6 _ _ _ (λ z. omega (arith, z)) (link 7 _ _ _ (λ z. omega (arith, z)) (second_decides {x = 0} {a = 0} refl refl refl)))))
 
-  pub pad_refuses : (refusal : Refusal) → number_of refusal ≡ access_ticket_refusal (rights_of right) k r.first → number_of refusal ≡ access_refusal right t r
-  pad_refuses refusal said = first_refuses _ said (never_zero refusal) ∙ sym access_in_parts
+  pub pad_refuses : {first : ℕ} → first ≡ access_ticket_refusal (rights_of right) k r.first → (first ≡ 0 → ⊥) → first ≡ access_refusal right t r
+  pad_refuses said ne = first_refuses _ said ne ∙ sym access_in_parts
+
+  pub pad_refused : (refusal : Refusal) → number_of refusal ≡ access_ticket_refusal (rights_of right) k r.first → number_of refusal ≡ access_refusal right t r
+  pad_refused refusal said = pad_refuses said (never_zero refusal)
 
   pub dock_decides : 0 ≡ access_ticket_refusal (rights_of right) k r.first → {second : ℕ} → second ≡ dock_refusal t k.dock (k.first + r.first) right
       → second ≡ access_refusal right t r
   dock_decides said h = second_decides said refl h ∙ sym access_in_parts
 
-pub ruleset access_parts = (pad_refuses, dock_decides)
+pub ruleset access_parts = (pad_refused, dock_decides)
 
-pub ruleset pass_parts = (ticket_refuses, room_decides, numbers_left)
+pub ruleset pass_parts = (ticket_refused, room_decides, numbers_left)

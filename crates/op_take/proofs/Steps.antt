@@ -19,7 +19,7 @@ use Rattle.machine.specs.Refusal.{number_of, is_spent}
 use Rattle.machine.specs.Operation.{taking, operation_of}
 use Rattle.machine.specs.Take.{take_refusal, take_tables, after_take}
 use Rattle.machine.specs.Step.{own_refusal, after_own, serve}
-use Rattle.machine.proofs.RefusalLaws.{when_past, when_at_most}
+use Rattle.machine.proofs.RefusalLaws.{never_zero, when_past, when_at_most}
 use Rattle.op_form.proofs.Numbers.{op_take}
 use Rattle.op_form.proofs.Laws.{take_fields}
 use Rattle.op_outcome.specs.Outcomes.{outcome_of, plainly}
@@ -62,7 +62,8 @@ module _ (t : Tables) (r : Request) where
 
     pub served_not : (refusal : Refusal) → number_of refusal ≡ take_refusal t r → outcome_of (plainly (number_of refusal)) t store sheet ≡ serve (state_of t store sheet) r
     unfolding own_refusal
-    served_not refusal e = served_refused t store sheet r asks.early taking op refusal e (λ z. not_lost (sym e ∙ z))
+    served_not refusal e =
+        served_refused t store sheet r asks.early taking op (number_of refusal) (sym e) (never_zero refusal) (λ z. not_lost (sym e ∙ z))
 
     -- the ticket and the entry that the code has made
     pub taken : 0 ≡ take_refusal t r → {number : ℕ} → number ≡ (new_name t r.pad r.program).number

@@ -1,5 +1,5 @@
 use Prim.Native.Nat.{ℕ}
-use mathlib.Core.Path.{ap, ◌∙◌}
+use mathlib.Core.Path.{sym, ap, subst, ◌∙◌}
 use mathlib.Core.List.{List}
 use Rattle.machine.specs.State.{sheet_at}
 use Rattle.machine.specs.Operation.{reading}
@@ -7,25 +7,26 @@ use Rattle.image.specs.Image.{decode}
 use Rattle.op_form.proofs.Numbers.{op_read}
 use Rattle.op_outcome.specs.Outcomes.{outcome_of, plainly}
 use Rattle.op_outcome.proofs.Laws.{stays}
+use Rattle.op_access.specs.Decides.{DecidesFor}
 use Rattle.op_access.proofs.Steps.{may_be_refused, sheet_in_store, refused, done, own_read, after_read_lem}
 use Rattle.op_access.proofs.read.Goals as goal
 
 pub refuse-requires : goal.refuse-requires
 refuse-requires c =
     let asks = c.requires.1 in
-    let found = c.asked-k.ensures in
-    (c.requires.0, may_be_refused 1 (decode c.args.image.now) c.args.r asks.1.early asks.0 (c.in-Err.ensures found) _ found)
+    let found = c.allowed-d.ensures.ticket in
+    (c.requires.0, may_be_refused 1 (decode c.args.image.now) c.args.r asks.1.early asks.0 (subst (DecidesFor 1 (decode c.args.image.now) c.args.r) c.in-Err.is c.allowed-d.ensures.found) _ found _ c.into.ensures)
 
 pub returns-in-Err : goal.returns-in-Err
 returns-in-Err c =
     let asks = c.requires.1 in
-    let found = c.asked-k.ensures in
+    let found = c.allowed-d.ensures.ticket in
     let t = decode c.args.image.now in
     let r = c.args.r in
-    refused 1 t r asks.1.early asks.0 (c.in-Err.ensures found) _ found reading (op_read r.op asks.1.number) (own_read t r) c.refuse.ensures
+    refused 1 t r asks.1.early asks.0 (subst (DecidesFor 1 (decode c.args.image.now) c.args.r) c.in-Err.is c.allowed-d.ensures.found) _ found _ c.into.ensures reading (op_read r.op asks.1.number) (own_read t r) c.refuse.ensures
 
 pub read_sheet-requires : goal.read_sheet-requires
-read_sheet-requires c = let low = sheet_in_store 1 (decode c.args.image.now) c.args.r c.requires.1.1.early (c.in-Ok.ensures c.asked-k.ensures) in low
+read_sheet-requires c = let low = sheet_in_store 1 (decode c.args.image.now) c.args.r c.requires.1.1.early (subst (DecidesFor 1 (decode c.args.image.now) c.args.r) c.in-Ok.is c.allowed-d.ensures.found) in low
 
 pub returns-in-Ok : goal.returns-in-Ok
 returns-in-Ok c =
@@ -34,7 +35,7 @@ returns-in-Ok c =
     let r = c.args.r in
     let store = c.args.store.now in
     let sheet = c.args.sheet.now in
-    let d = c.in-Ok.ensures c.asked-k.ensures in
+    let d = subst (DecidesFor 1 (decode c.args.image.now) c.args.r) c.in-Ok.is c.allowed-d.ensures.found in
     let copied = c.read_sheet.ensures ∙ ap (λ (at : ℕ). sheet_at at store) d.sheet in
     stays c.requires.0 c.accepted.ensures
     (ap (λ (bytes : List ℕ). outcome_of (plainly 0) t store bytes) copied ∙ after_read_lem t r store sheet

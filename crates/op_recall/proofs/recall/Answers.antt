@@ -1,8 +1,9 @@
 use native.Mathlib.Omega.{arith}
-use mathlib.Core.Path.{refl, sym, ap, ◌∙◌}
+use mathlib.Core.Path.{◌≡◌, refl, sym, ap, ◌∙◌}
 use Rattle.tables.specs.declared.Name.{Name}
 use Rattle.image.specs.Image.{decode, is_image}
-use Rattle.machine.specs.Recall.{recall_tables}
+use Rattle.machine.specs.Refusal.{said}
+use Rattle.machine.specs.Recall.{recall_refusal, recall_tables}
 use Rattle.op_form.proofs.Laws.{sender_possible}
 use Rattle.op_outcome.proofs.Laws.{leaves, stays, entries_kept_lem}
 use Rattle.op_recall.proofs.Steps.{recalled_near, recalled_far, refused, recalled}
@@ -12,7 +13,7 @@ use Rattle.op_recall.proofs.recall.Goals.{then-target-r, else-target-r}
 pub returns-in-Err : goal.returns-in-Err
 returns-in-Err c =
     λ store sheet. stays c.requires.0 c.refused.ensures
-    (refused (decode c.args.image.now) store sheet c.args.r c.requires.1.1 c.in-Err.refusal c.in-Err.ensures.result)
+    (refused (decode c.args.image.now) store sheet c.args.r c.requires.1.1 c.in-Err.refusal (sym (ap said c.in-Err.is) ∙ c.allowed-d.ensures.result))
 
 pub drop_followed-requires : goal.drop_followed-requires
 drop_followed-requires c =
@@ -34,7 +35,8 @@ pub returns : goal.returns
 returns c =
     let t = decode c.args.image.now in
     let r = c.args.r in
-    let d = c.in-Ok.ensures in
+    let d = c.allowed-d.ensures in
+    let decided : 0 ≡ recall_refusal t r = sym (ap said c.in_default.is) ∙ d.result in
     elim c.if-target-r.branch [
       | then-target-r w ↦ λ store sheet.
           leaves {u = recall_tables t r}
@@ -43,7 +45,7 @@ returns c =
             tables = ap decode w.image-is ∙ w.drop_followed.ensures.tables
                 ∙ recalled_near t r _ d.ticket w.if-target-r.true _ c.asked_name-own.ensures;
           })
-          c.accepted.ensures (recalled t store sheet r c.requires.1.1 d.result refl)
+          c.accepted.ensures (recalled t store sheet r c.requires.1.1 decided refl)
       | else-target-r w ↦ λ store sheet.
           leaves {u = recall_tables t r}
           (record {
@@ -51,5 +53,5 @@ returns c =
             tables = ap decode w.image-is ∙ w.drop_below.ensures.tables
                 ∙ recalled_far t r _ d.ticket w.if-target-r.false _ c.asked_name-own.ensures _ w.drop_one.ensures.tables;
           })
-          c.accepted.ensures (recalled t store sheet r c.requires.1.1 d.result refl)
+          c.accepted.ensures (recalled t store sheet r c.requires.1.1 decided refl)
     ]

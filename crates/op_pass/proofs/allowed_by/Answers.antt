@@ -3,7 +3,7 @@ use Rattle.image.specs.Image.{decode}
 use Rattle.op_refusals.specs.Found.{Found}
 use Rattle.op_refusals.proofs.Parts.{room_decides}
 use Rattle.op_form.proofs.Laws.{sender_possible, pass_fields}
-use Rattle.op_pass.proofs.allowed.Goals as goal
+use Rattle.op_pass.proofs.allowed_by.Goals as goal
 
 pub seat-p-requires : goal.seat-p-requires
 seat-p-requires c = sender_possible c.args.r c.requires.early
