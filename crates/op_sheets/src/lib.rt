@@ -2,7 +2,7 @@
 
 #![tactic(auto)]
 
-ghost use Rattle.std.specs.Prelude.{◌≡◌, ◌+◌, ◌<◌, ◌≤◌, length};
+ghost use Rattle.std.specs.Prelude.{◌≡◌, ◌+◌, ◌<◌, ◌≤◌, length, replicate};
 ghost use Rattle.machine.specs.State.{sheet_at, put_sheets, clear_sheets};
 
 // Bytes of a sheet and of the store.
@@ -14,6 +14,13 @@ pub type Sheet = [u8; SHEET];
 
 pub type Store = [u8; STORE];
 
+// Every byte becomes 0.
+pub fn clear(s: &mut [u8])
+    ensures { s.new ≡ replicate (length s.old) 0 }
+{
+    s.fill(0);
+}
+
 // `count` sheets from `first` on become 0.
 #[tactic(auto, unfolding(machine::specs::State::clear_sheets), using(crate::proofs::Parts::put_back))]
 pub fn clear_sheets(store: &mut Store, first: usize, count: usize)
@@ -22,7 +29,7 @@ pub fn clear_sheets(store: &mut Store, first: usize, count: usize)
 {
     let start = SHEET * first;
     let end = SHEET * (first + count);
-    store[start..end].fill(0);
+    clear(&mut store[start..end]);
 }
 
 // Read copies the sheet into the buffer, an array by value: two slices might overlap, for all that the compiler knows, and so

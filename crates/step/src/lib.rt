@@ -20,11 +20,11 @@ pub fn empty(tables: &mut [u8], store: &mut [u8]) -> Result<(), Refusal>
     if tables.len() != IMAGE {
         return Err(Refusal::Length);
     }
-    tables.fill(0);
+    op_sheets::clear(tables);
     if store.len() != STORE {
         return Err(Refusal::Length);
     }
-    store.fill(0);
+    op_sheets::clear(store);
     Ok(())
 }
 

@@ -5,7 +5,7 @@ use mathlib.Core.Path.{◌≡◌, refl, ap, ◌∙◌}
 use mathlib.Core.Bool.{true, false, cond}
 use mathlib.Core.List.{List, [], ◌∷◌}
 use Rattle.std.specs.Cmp.Lexicographic.{pointwise}
-use Rattle.std.specs.Prelude.{Some, None}
+use Rattle.std.specs.Prelude.{Ok, Err}
 use lib.Dec.{eqb}
 use lib.ListN.{length, take, drop, drop_of_length-le}
 use borrow.Author.Tests.{eqb-true, eqb-false}
@@ -25,25 +25,25 @@ same_pointwise (x ∷ a) (y ∷ b) = rw (same_pointwise a b)
 
 -- ---- the first line
 module _ (names text : List ℕ) where
-  pub no_first : eqb (length text) 0 ≡ true → None ≡ first_line_of names text
+  pub no_first : (end : ℕ) → end ≡ up_to line_end text → eqb (length text) 0 ≡ true → Err end ≡ first_line_of names text
   unfolding first_line_of named lines cut
-  no_first h = rw (drop_of_length-le text {i = 0} (omega (arith, eqb-true _ _ h)))
+  no_first end ends h = rw (ends, drop_of_length-le text {i = 0} (omega (arith, eqb-true _ _ h)))
 
   pub first_is : (end : ℕ) → end ≡ up_to line_end text → eqb (length text) 0 ≡ false
-      → first_line_of names text ≡ cond (same_bytes (take end text) names) (Some end) None
+      → first_line_of names text ≡ cond (same_bytes (take end text) names) (Ok end) (Err end)
   unfolding first_line_of named
   first_is end ends h = rw (ends, lines_first text (omega (arith, eqb-false _ _ h)))
 
   -- what it tells of the text
-  pub other_first : None ≡ first_line_of names text → named names (lines text) ≡ false
+  pub other_first : (end : ℕ) → Err end ≡ first_line_of names text → named names (lines text) ≡ false
   unfolding first_line_of
-  other_first e = go (case (named names (lines text)))
+  other_first end e = go (case (named names (lines text)))
     where
       go : Case (named names (lines text)) → named names (lines text) ≡ false
       go (pass t) = let q = rw t at e in cc
       go (fail f) = f
 
-  pub first_named : (end : ℕ) → Some end ≡ first_line_of names text → (named names (lines text) ≡ true) × (end ≡ up_to line_end text)
+  pub first_named : (end : ℕ) → Ok end ≡ first_line_of names text → (named names (lines text) ≡ true) × (end ≡ up_to line_end text)
   unfolding first_line_of
   first_named end e = go (case (named names (lines text)))
     where

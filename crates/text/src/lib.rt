@@ -35,15 +35,15 @@ pub fn same(a: &[u8], b: &[u8]) -> bool
     a == b
 }
 
-// Where the first line of a text ends, if it is the names.
-pub fn first_line(text: &[u8], names: &[u8]) -> Option<usize>
+// Where the first line of a text ends: `Ok` if it is the names, `Err` if it isn't.
+pub fn first_line(text: &[u8], names: &[u8]) -> Result<usize, usize>
     ensures { result ≡ first_line_of names.now text.now }
 {
     let end = find(text, LINE_END);
     if !text.is_empty() && same(&text[..end], names) {
-        Some(end)
+        Ok(end)
     } else {
-        None
+        Err(end)
     }
 }
 
@@ -83,11 +83,14 @@ fn no_leading_zero(field: &[u8]) -> bool
     }
 }
 
-// The number of a field, where it is a value.
-#[tactic(auto, unfolding(crate::specs::Reading::is_value, crate::specs::FieldNumber::number_if))]
+// The number of a field, where it is a value. Most have one digit, which is no leading zero and needs no loop: so that is asked first.
+#[tactic(auto, unfolding(crate::specs::Reading::is_value, crate::specs::FieldNumber::number_if), using(crate::proofs::NumberLaws::lone_lead))]
 fn field_number(field: &[u8]) -> Option<u16>
     ensures { result ≡ number_if (is_value field.now) field.now }
 {
+    if field.len() == 1 {
+        return digits_number(field);
+    }
     if no_leading_zero(field) {
         digits_number(field)
     } else {

@@ -4,7 +4,7 @@ use native.Mathlib.Omega.{arith}
 use mathlib.Core.Path.{◌≡◌, refl, sym, ap, subst, ◌∙◌}
 use mathlib.Core.Bool.{Bool, true, false, ◌&&◌}
 use mathlib.Core.List.{List, [], ◌∷◌}
-use Rattle.std.specs.Prelude.{Some, None}
+use Rattle.std.specs.Prelude.{Ok, Err}
 use lib.Dec.{eqb}
 use lib.ListN.{length, get_or, drop}
 use Rattle.lists.specs.Lists.{all}
@@ -49,9 +49,9 @@ module _ (text : List ℕ) where
       regroup true false c d e = refl
       regroup true true c d e = refl
 
-  pub other_names : None ≡ first_line_of column_names text → (image : List ℕ) → ReadsText text false image
-  other_names e image = record {
-    answer = sym (whole ∙ ap (λ (b : Bool). b && is_ended text && lines_ok under) (other_first column_names text e));
+  pub other_names : (end : ℕ) → Err end ≡ first_line_of column_names text → (image : List ℕ) → ReadsText text false image
+  other_names end e image = record {
+    answer = sym (whole ∙ ap (λ (b : Bool). b && is_ended text && lines_ok under) (other_first column_names text end e));
     tables = λ t. no_true t;
   }
 
@@ -62,7 +62,7 @@ module _ (text : List ℕ) where
     tables = λ t. no_true (sym f ∙ t);
   }
 
-  module _ (end : ℕ) (e : Some end ≡ first_line_of column_names text) where
+  module _ (end : ℕ) (e : Ok end ≡ first_line_of column_names text) where
     told : (named column_names (lines text) ≡ true) × (end ≡ up_to line_end text)
     told = first_named column_names text end e
 

@@ -68,7 +68,7 @@ fn read_text(image: &mut Image, text: &[u8]) -> bool
     requires { image.old ≡ replicate image_size 0 }
     ensures { ReadsText text.now result image.new }
 {
-    let Some(end) = text::first_line(
+    let Ok(end) = text::first_line(
         text,
         b"kind pad program number own opad oprogram onumber first count rights",
     ) else {
@@ -84,14 +84,14 @@ pub fn load_lent(tables: &mut [u8], text: &[u8]) -> Result<(), Refusal>
     let Some(image) = tables.as_mut_array() else {
         return Err(Refusal::Length);
     };
-    image.fill(0);
+    op_sheets::clear(image);
     if !read_text(image, text) {
-        image.fill(0);
+        op_sheets::clear(image);
         return Err(Refusal::BadText);
     }
     text_docks::put_docks(image);
     if !order::image_in_order(image) {
-        image.fill(0);
+        op_sheets::clear(image);
         return Err(Refusal::NotInOrder);
     }
     Ok(())

@@ -2,7 +2,7 @@
 
 #![tactic(auto)]
 
-ghost use Rattle.std.specs.Prelude.{◌%◌, ◌^◌, ◌<◌, ◌≡◌};
+ghost use Rattle.std.specs.Prelude.{◌%◌, ◌^◌, ◌<◌, ◌≡◌, length, replicate};
 ghost use Rattle.text_marks.specs.Marks.{marked_in, with_mark};
 
 // Bytes of the marks.
@@ -31,4 +31,11 @@ pub fn mark(marks: &mut Marks, place: usize)
     ensures { marked_in marks.new ≡ with_mark place (marked_in marks.old) }
 {
     marks[place / 8] |= mask(place);
+}
+
+// Every byte becomes 0, whatever the length.
+pub fn clear(marks: &mut [u8])
+    ensures { marks.new ≡ replicate (length marks.old) 0 }
+{
+    marks.fill(0);
 }

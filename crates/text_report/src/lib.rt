@@ -37,7 +37,7 @@ fn put_and_clear(image: &Image, marks: &mut Marks, out: &mut [u8]) -> usize
     ensures marks_after { marks.new ≡ replicate mark_bytes 0 }
 {
     let total = put_report(image, marks, out);
-    marks.fill(0);
+    text_marks::clear(marks);
     total
 }
 
@@ -55,7 +55,7 @@ fn fits(image: &Image, marks: &mut Marks, room: usize) -> bool
 pub fn report_lent(tables: &[u8], scratch: &mut [u8], output: &mut [u8]) -> Result<usize, Refusal>
     ensures { ReportsLent (report_buffers tables.now scratch.old output.old) (said result) scratch.new output.new (length_said result) }
 {
-    scratch.fill(0);
+    text_marks::clear(scratch);
     let Some(image) = tables.as_array() else {
         return Err(Refusal::Length);
     };

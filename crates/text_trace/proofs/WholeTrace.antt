@@ -4,7 +4,7 @@ use native.Mathlib.Omega.{arith}
 use mathlib.Core.Path.{◌≡◌, sym, ap, subst, ◌∙◌}
 use mathlib.Core.Bool.{true, false}
 use mathlib.Core.List.{List, [], ◌∷◌, ◌++◌}
-use Rattle.std.specs.Prelude.{Some, None}
+use Rattle.std.specs.Prelude.{Ok, Err}
 use lib.Dec.{eqb}
 use lib.ListN.{length, take, drop, replicate, length-replicate}
 use lib.Seq.{append_snoc, take_at}
@@ -61,11 +61,11 @@ module _ (input : List ℕ) where
   unfolding input_ok
   too_long h = rw (lt-leb (length input) longest_input h)
 
-  pub other_names : None ≡ first_line_of input_names input → input_ok input ≡ false
+  pub other_names : (end : ℕ) → Err end ≡ first_line_of input_names input → input_ok input ≡ false
   unfolding input_ok
-  other_names e = rw (other_first input_names input e, and_false)
+  other_names end e = rw (other_first input_names input end e, and_false)
 
-  module _ (end : ℕ) (told : Some end ≡ first_line_of input_names input) where
+  module _ (end : ℕ) (told : Ok end ≡ first_line_of input_names input) where
     pub is_ok : length input ≤ longest_input → input_ok input ≡ true
     unfolding input_ok
     is_ok h = rw (le-leb (length input) longest_input h) (first_named input_names input end told).0
@@ -105,7 +105,7 @@ module _ (out middle : List ℕ) (at : ℕ) (names : Appends names_line out midd
 
 -- ---- behind the names
 module _ (s : State) (input : List ℕ) where
-  module _ (end : ℕ) (told : Some end ≡ first_line_of input_names input) where
+  module _ (end : ℕ) (told : Ok end ≡ first_line_of input_names input) where
     pub served_answers : answers 1 s (behind_names (lines input)) ≡ answers 1 s (lines (drop (end + 1) input))
     served_answers = ap (answers 1 s) (behind_first input end told)
 

@@ -155,7 +155,7 @@ fn put_trace(tables: &mut Image, store: &mut Store, input: &[u8], out: &mut [u8]
     if LONGEST < input.len() {
         return append_other(out, at, 0);
     }
-    let Some(end) = text::first_line(
+    let Ok(end) = text::first_line(
         input,
         b"pad program op ticket topad toprogram first count rights fill",
     ) else {

@@ -7,9 +7,9 @@ returns-then-tables-ne-IMAGE c = not_emptied c.args.tables.now c.args.store.now 
 
 pub returns-then-store-ne-STORE : goal.returns-then-store-ne-STORE
 returns-then-store-ne-STORE c =
-    tables_emptied c.args.tables.now c.args.store.now c.if-tables-ne-IMAGE.false _ (c.fill.ensures.after (λ y e. e)) c.if-store-ne-STORE.true
+    tables_emptied c.args.tables.now c.args.store.now c.if-tables-ne-IMAGE.false _ c.clear.ensures c.if-store-ne-STORE.true
 
 pub returns : goal.returns
 returns c =
-    all_emptied c.args.tables.now c.args.store.now c.if-tables-ne-IMAGE.false _ (c.fill.ensures.after (λ y e. e))
-    c.if-store-ne-STORE.false _ (c.fill-2.ensures.after (λ y e. e))
+    all_emptied c.args.tables.now c.args.store.now c.if-tables-ne-IMAGE.false _ c.clear.ensures
+    c.if-store-ne-STORE.false _ c.clear-2.ensures

@@ -19,5 +19,5 @@ returns-else-not-is_empty c =
     elim c.else-not-is_empty.branch [
       | else-not-is_empty-via-then-not-is_empty+else-same w ↦
           sym (first_is names text _ c.find-end.ensures (sym c.is_empty.ensures ∙ w.if-not-is_empty.true) ∙ rw (← w.same.ensures, w.if-same.false))
-      | else-not-is_empty-via-else-not-is_empty w ↦ no_first names text (sym c.is_empty.ensures ∙ w.if-not-is_empty.false)
+      | else-not-is_empty-via-else-not-is_empty w ↦ no_first names text _ c.find-end.ensures (sym c.is_empty.ensures ∙ w.if-not-is_empty.false)
     ]

@@ -3,4 +3,4 @@ use Rattle.text_report.proofs.put_and_clear.Goals as goal
 
 pub returns : goal.returns
 returns c =
-    record { appends = c.put_report-total.ensures; marks_after = clear_scratch _ _ c.put_report-total.array_long (c.fill.ensures.after (λ y e. e)) }
+    record { appends = c.put_report-total.ensures; marks_after = clear_scratch _ _ c.put_report-total.array_long c.clear.ensures }

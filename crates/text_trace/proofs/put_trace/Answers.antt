@@ -37,7 +37,7 @@ returns-in_default c =
     let a = c.args in
     let input = a.input.now in
     let here = dock_of a.tables.now a.store.now in
-    let bad = other_names input c.in_default.ensures in
+    let bad = other_names input _ c.in_default.ensures in
     let same = same_dock _ _ (search rules) c.requires in
     record { appends = refused_trace _ _ _ c.append-at.ensures here input _ _ bad c.append_other-in_default.ensures; leaves_dock = refused_leaves here input bad same }
 
@@ -45,7 +45,7 @@ pub overflow_add-end : goal.overflow_add-end
 unfolding input_names bytes
 overflow_add-end c =
     let input = c.args.input.now in
-    omega (arith, end_inside input _ c.in-Some.ensures)
+    omega (arith, end_inside input _ c.in-Ok.ensures)
 
 pub serve_lines-requires : goal.serve_lines-requires
 unfolding output_names input_names bytes
@@ -54,7 +54,7 @@ serve_lines-requires c =
     let input = a.input.now in
     let names = names_end _ _ _ c.append-at.ensures in
     let short : length input ≤ longest_input = omega (arith, c.if-input-gt-LONGEST.false) in
-    let told = c.in-Some.ensures in
+    let told = c.in-Ok.ensures in
     let ok = is_ok input _ told short in (
       c.requires,
       (
@@ -71,7 +71,7 @@ returns c =
     let input = a.input.now in
     let here = dock_of a.tables.now a.store.now in
     let short : length input ≤ longest_input = omega (arith, c.if-input-gt-LONGEST.false) in
-    let told = c.in-Some.ensures in
+    let told = c.in-Ok.ensures in
     let ok = is_ok input _ told short in
     let lines = c.serve_lines.ensures in
     record {
