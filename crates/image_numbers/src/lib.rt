@@ -82,7 +82,7 @@ pub fn kind_numbers(image: &Image, program: usize, kind: u16) -> [u16; 8]
 // does not, and is no less than `rest`: so one comparison does. The search keeps a place also where there is none, the length: with an Option
 // in the loop each of the eight turns leaves a branch behind.
 #[tactic(auto, using(crate::proofs::Least::best_none, crate::proofs::Least::best_kept, crate::proofs::Least::best_new, crate::proofs::Least::best_some, crate::proofs::Least::best_end))]
-fn next_above(numbers: &[u16], after: u16) -> Option<usize>
+pub fn next_above(numbers: &[u16], after: u16) -> Option<usize>
     ensures { MatchOption result (NoneAbove numbers.now after) (NextAbove numbers.now after) }
 {
     let rest = 65535 - after;
