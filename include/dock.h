@@ -58,7 +58,7 @@ extern "C" {
 /*
  * Bytes of stack that a call may take, its own frame included. dock_report has its own number, because
  * it goes from loan to loan, up to 127 deep; dock_trace too, because it measures a trace on a copy of the
- * dock. tests/stack.c measures at most 16,232, 29,968 and 43,768; this is not proved.
+ * dock. tests/stack.c measures at most 16,248, 34,020 and 43,768; this is not proved.
  */
 #define DOCK_STACK 32768
 #define DOCK_REPORT_STACK 49152
